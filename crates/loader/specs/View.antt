@@ -1,0 +1,20 @@
+use mathlib.Core.List.{List}
+use Prim.Native.Nat.{ℕ}
+use lib.ListN.{getD}
+use Rattle.model.specs.Graph.{Graph}
+use Rattle.loader.specs.declared.transfer.Transfer.{Transfer}
+
+-- what stands past the last transfer
+abbrev pub blank : Transfer
+blank = record { from = 0; to = 0; cost = 0 }
+
+-- the graph of so many tasks and machines, with these works and transfers
+abbrev pub graphOf : ℕ → ℕ → List ℕ → ℕ → List Transfer → Graph
+graphOf tasks machines works count transfers = record {
+    tasks = tasks;
+    machines = machines;
+    count = count;
+    work = λ t. getD works t 0;
+    from = λ k. getD transfers k blank .from;
+    to = λ k. getD transfers k blank .to;
+    cost = λ k. getD transfers k blank .cost }

@@ -1,0 +1,9 @@
+pub mod Range
+pub mod Counting
+pub mod Minimal
+pub mod Renamings
+pub mod Naming
+pub mod Rules
+pub mod Levels
+pub mod Cycles
+pub mod Starts

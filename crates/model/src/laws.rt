@@ -1,0 +1,8 @@
+ghost use Rattle.model.specs.Laws.{CycleTestDecides};
+
+// The test for a cycle decides it.
+pub fn cycle_test_decides() -> bool
+    ensures { λ _. ⌜ CycleTestDecides ⌝ }
+{
+    true
+}
