@@ -4,12 +4,12 @@ use mathlib.Core.Logic.{_⊎_, inl, inr, _≢_, ⊎-elim}
 use Prim.Native.Nat.{ℕ, zero, suc, _+_, _*_, _-_, _≤_, _<_, max}
 use native.Mathlib.Omega.{arith}
 use native.Mathlib.Decide.{ℕ-discrete, decLe, decLt}
-use lib.Dec.{eqb}
-use Rattle.std.proofs.shelf.Tests.{eq-eqb, ne-eqb, eqb-true, not-true, not-from-false, not-from-true}
+use lib.Dec.{eqb, ltb}
+use Rattle.std.proofs.shelf.Tests.{eq-eqb, ne-eqb, eqb-true, lt-ltb, ltb-true, and-from, and-parts, and-right, not-true, not-from-false, not-from-true}
 use Rattle.model.specs.Range.{top, every, put}
 use Rattle.model.specs.Graph.{Graph}
 use Rattle.model.specs.Schedule.{Schedule, Feasible, delay}
-use Rattle.model.specs.Partial.{Partial, Complete, Free, free?, Obeys, machineFinish, dataReady, startOn, append, whole}
+use Rattle.model.specs.Partial.{Partial, Complete, Free, ready?, free?, Obeys, machineFinish, dataReady, startOn, append, whole}
 use Rattle.model.specs.NormalForm.{Renamed, Normal, normalForm}
 use Rattle.model.specs.Reachable.{Reachable, Empty}
 use Rattle.model.specs.Reachable.Reachable.{none, more}
@@ -18,20 +18,28 @@ use Rattle.model.proofs.Minimal.{Dag}
 use Rattle.model.proofs.Naming.{form-renamed, form-normal}
 
 -- the test for a free task decides it
-pub free-test : (g : Graph) (s : Partial) (t : ℕ) → Free g s t → free? g s t ≡ true
-free-test g s t F =
-    let a : not (s .placed t) ≡ true = not-from-false _ (F .1) in
-    let b : every (g .count) (λ k. not (eqb (g .to k) t) || s .placed (g .from k)) ≡ true = every-from (g .count) (λ k. not (eqb (g .to k) t) || s .placed (g .from k)) (λ k hk. elim (ℕ-discrete (g .to k) t) [
+ready-test : (g : Graph) (s : Partial) (t : ℕ) → Free g s t → ready? g s t ≡ true
+ready-test g s t F =
+    and-from _ _ (not-from-false _ (F .1)) (every-from (g .count) (λ k. not (eqb (g .to k) t) || s .placed (g .from k)) (λ k hk. elim (ℕ-discrete (g .to k) t) [
           yes e ↦ rw (eq-eqb (g .to k) t e, F .2 k hk e)
-        | no ne ↦ rw (ne-eqb (g .to k) t ne) ]) in
-    rw (a, b)
+        | no ne ↦ rw (ne-eqb (g .to k) t ne) ]))
 
-pub test-free : (g : Graph) (s : Partial) (t : ℕ) → t < g .tasks → free? g s t ≡ true → Free g s t
-test-free g s t h e = (h, not-true _ (and-l _ _ e), λ k hk q. or-right _ _ (every-all (g .count) (λ k. not (eqb (g .to k) t) || s .placed (g .from k)) (and-r (not (s .placed t)) _ e) k hk) (not-from-true _ (eq-eqb (g .to k) t q)))
+pub free-test : (g : Graph) (s : Partial) (t : ℕ) → Free g s t → free? g s t ≡ true
+free-test g s t F = and-from _ _ (lt-ltb t (g .tasks) (F .0)) (ready-test g s t F)
+
+pub test-free : (g : Graph) (s : Partial) (t : ℕ) → free? g s t ≡ true → Free g s t
+test-free g s t e =
+    let p = and-parts (ltb t (g .tasks)) _ e in
+    let q = and-parts (not (s .placed t)) _ (p .1) in
+    (ltb-true t (g .tasks) (p .0), not-true _ (q .0), λ k hk z. or-other _ _ (every-all (g .count) (λ k. not (eqb (g .to k) t) || s .placed (g .from k)) (q .1) k hk) (not-from-true _ (eq-eqb (g .to k) t z)))
   where
-    or-right : (a b : Bool) → (a || b) ≡ true → a ≡ false → b ≡ true
-    or-right true b p q = clash true refl q
-    or-right false b p q = p
+    or-other : (a b : Bool) → (a || b) ≡ true → a ≡ false → b ≡ true
+    or-other true b p q = clash true refl q
+    or-other false b p q = p
+
+-- one transfer that does not let a task be free is enough
+pub ready-off : (g : Graph) (s : Partial) (t k : ℕ) → k < g .count → (not (eqb (g .to k) t) || s .placed (g .from k)) ≡ false → ready? g s t ≡ false
+ready-off g s t k h e = and-right (not (s .placed t)) _ (every-off (g .count) k (λ k. not (eqb (g .to k) t) || s .placed (g .from k)) h e)
 
 pub ready-has : (g : Graph) (s : Partial) (t m k : ℕ) → k < g .count → g .to k ≡ t → s .start (g .from k) + g .work (g .from k) + delay g k (s .machine (g .from k)) m ≤ dataReady g s t m
 ready-has g s t m k hk e =

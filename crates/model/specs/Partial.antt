@@ -2,7 +2,7 @@ use mathlib.Core.Path.{_≡_}
 use mathlib.Core.Bool.{Bool, true, false, cond, not, _&&_, _||_}
 use mathlib.Core.Logic.{_⊎_, _≢_}
 use Prim.Native.Nat.{ℕ, _+_, _≤_, _<_, max}
-use lib.Dec.{eqb}
+use lib.Dec.{eqb, ltb}
 use Rattle.model.specs.Range.{top, every, put}
 use Rattle.model.specs.Graph.{Graph}
 use Rattle.model.specs.Schedule.{Schedule, delay}
@@ -31,9 +31,12 @@ Unfinished g s = (t : ℕ) × (t < g .tasks) × (s .placed t ≡ false)
 abbrev pub Free : Graph → Partial → ℕ → Type 0
 Free g s t = (t < g .tasks) × (s .placed t ≡ false) × ((k : ℕ) → k < g .count → g .to k ≡ t → s .placed (g .from k) ≡ true)
 
--- the test for it, of a task of the graph
+-- the test for it: a task of the graph that is not placed, while every predecessor is
+abbrev pub ready? : Graph → Partial → ℕ → Bool
+ready? g s t = not (s .placed t) && every (g .count) (λ k. not (eqb (g .to k) t) || s .placed (g .from k))
+
 abbrev pub free? : Graph → Partial → ℕ → Bool
-free? g s t = not (s .placed t) && every (g .count) (λ k. not (eqb (g .to k) t) || s .placed (g .from k))
+free? g s t = ltb t (g .tasks) && ready? g s t
 
 -- the greatest finish of the tasks placed on a machine, or 0
 abbrev pub machineFinish : Graph → Partial → ℕ → ℕ

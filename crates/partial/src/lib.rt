@@ -1,0 +1,3 @@
+pub mod names;
+pub mod partial;
+pub mod placement;

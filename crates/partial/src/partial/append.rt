@@ -1,0 +1,45 @@
+ghost use mathlib.Core.Path.{_≡_};
+ghost use Prim.Native.Nat.{ℕ, _<_, _≤_};
+ghost use Rattle.std.specs.Options.{Cases};
+ghost use Rattle.model.specs.Partial.{append, Obeys};
+ghost use Rattle.model.specs.NormalForm.{normalForm};
+ghost use Rattle.model.specs.Reachable.{Reachable};
+ghost use Rattle.loader.specs.Meaning.{theGraph};
+ghost use Rattle.partial.specs.Meaning.{thePartial, Answers};
+use crate::partial::PartialSchedule;
+use crate::placement::Placement;
+use loader::graph::TaskGraph;
+
+impl PartialSchedule {
+    // Task t put on machine m at the greater of its data ready time there and the machine's finish. None where
+    // the task is not free, the machine is not one of the graph's, or 32 bits do not hold the start.
+    pub fn append(&self, g: &TaskGraph, t: usize, m: u8) -> Option<PartialSchedule>
+        ensures is { λ r. ⌜ Answers (theGraph (now (g .entry))) (thePartial (now (self .entry))) t m (append (theGraph (now (g .entry))) (thePartial (now (self .entry))) t m) r ⌝ }
+        ensures keeps_rules { λ r. ⌜ (Obeys (theGraph (now (g .entry))) (thePartial (now (self .entry))) → Cases r (Unit {0}) (λ c. Obeys (theGraph (now (g .entry))) (thePartial c))) ⌝ }
+    {
+        if !self.is_free(g, t) {
+            return None;
+        }
+        if m as usize >= g.machines() {
+            return None;
+        }
+        let start = self.start_on(g, t, m);
+        if start > 4294967295 {
+            return None;
+        }
+        let mut places = self.places;
+        places[t] = Some(Placement { machine: m, start: start as u32 });
+        Some(PartialSchedule { places })
+    }
+
+    // The same, in normal form.
+    pub fn child(&self, g: &TaskGraph, t: usize, m: u8) -> Option<PartialSchedule>
+        ensures is { λ r. ⌜ Answers (theGraph (now (g .entry))) (thePartial (now (self .entry))) t m (normalForm (theGraph (now (g .entry))) (append (theGraph (now (g .entry))) (thePartial (now (self .entry))) t m)) r ⌝ }
+        ensures reachable { λ r. ⌜ (Reachable (theGraph (now (g .entry))) (thePartial (now (self .entry))) → Cases r (Unit {0}) (λ c. Reachable (theGraph (now (g .entry))) (thePartial c))) ⌝ }
+    {
+        match self.append(g, t, m) {
+            Some(appended) => Some(appended.normal_form(g)),
+            None => None,
+        }
+    }
+}
