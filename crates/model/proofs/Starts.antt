@@ -81,3 +81,7 @@ some-free g S s x =
     let T : ℕ → Bool = λ t. not (s .placed t) in
     let m = minimal g S T (λ _. false) (missing (λ _. false) (g .tasks)) (omega arith) (x .0) (x .1) (ap not (x .2)) (λ v q. clash false q refl) in
     (m .0, (m .1, not-true _ (m .2), λ k h e. not-false _ (m .3 k h e)))
+
+-- where a free task of a reachable partial schedule starts
+pub start-reachable : (g : Graph) → Lawful g → {s : Partial} → Reachable g s → (t m : ℕ) → Free g s t → startOn g s t m ≤ 64000
+start-reachable g L {s} R t m F = omega (arith, next g L s (early g L R) t m F, L .sizes .1)

@@ -1,0 +1,4 @@
+pub mod Judging
+pub mod Choosing
+pub mod Listing
+pub mod Passing

@@ -1,0 +1,4 @@
+pub mod Rows
+pub mod Check
+pub mod Judged
+pub mod ListSchedule

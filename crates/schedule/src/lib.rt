@@ -1,0 +1,5 @@
+pub mod check;
+pub mod checked;
+pub mod fault;
+pub mod list;
+pub mod rule;
