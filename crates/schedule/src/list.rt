@@ -8,7 +8,7 @@ ghost use Rattle.model.specs.Partial.{Complete, Unfinished, free?, whole};
 ghost use Rattle.model.specs.Reachable.{Reachable};
 ghost use Rattle.loader.specs.Meaning.{theGraph, levelsOf};
 ghost use Rattle.partial.specs.Meaning.{thePartial};
-ghost use Rattle.schedule.specs.ListSchedule.{nextTask, earliest, extend, listed, ByRule};
+ghost use Rattle.schedule.specs.ListSchedule.{nextTask, earliest, extend, listed, Next, Earliest, ByRule};
 use loader::graph::TaskGraph;
 use partial::partial::PartialSchedule;
 
@@ -23,7 +23,8 @@ fn takes_over(g: &TaskGraph, q: &PartialSchedule, best: usize, t: usize) -> bool
 
 // The free task with the greatest bottom level, among equals the lowest number; the number of tasks where none is free.
 pub fn next_task(g: &TaskGraph, q: &PartialSchedule) -> usize
-    ensures { λ r. ⌜ r ≡ nextTask (theGraph (now (g .entry))) (thePartial (now (q .entry))) (theGraph (now (g .entry)) .tasks) ⌝ }
+    ensures is { λ r. ⌜ r ≡ nextTask (theGraph (now (g .entry))) (thePartial (now (q .entry))) (theGraph (now (g .entry)) .tasks) ⌝ }
+    ensures law { λ r. ⌜ (Unfinished (theGraph (now (g .entry))) (thePartial (now (q .entry))) → Next (theGraph (now (g .entry))) (thePartial (now (q .entry))) r) ⌝ }
 {
     let mut best = g.tasks();
     for t in 0..g.tasks() {
@@ -37,7 +38,7 @@ pub fn next_task(g: &TaskGraph, q: &PartialSchedule) -> usize
 // The machine where task t starts earliest, among equals the lowest.
 pub fn earliest_machine(g: &TaskGraph, q: &PartialSchedule, t: usize) -> u8
     ensures is { λ r. ⌜ r ≡ earliest (theGraph (now (g .entry))) (thePartial (now (q .entry))) t (theGraph (now (g .entry)) .machines) ⌝ }
-    ensures low { λ r. ⌜ r < theGraph (now (g .entry)) .machines ⌝ }
+    ensures law { λ r. ⌜ Earliest (theGraph (now (g .entry))) (thePartial (now (q .entry))) t r ⌝ }
 {
     let mut best: u8 = 0;
     for m in 0..g.machines() as u8 {

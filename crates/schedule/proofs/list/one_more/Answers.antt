@@ -1,11 +1,9 @@
-use mathlib.Core.Path.{_≡_, sym, subst}
 use native.Mathlib.Omega.{arith}
 use Rattle.model.specs.Partial.{Free}
-use Rattle.model.proofs.Starts.{lawful-dag, start-reachable}
+use Rattle.model.proofs.Starts.{start-reachable}
 use Rattle.loader.specs.Meaning.{theGraph}
 use Rattle.loader.proofs.Laws.{theLawful}
 use Rattle.partial.specs.Meaning.{thePartial}
-use Rattle.schedule.proofs.Choosing.{next-is}
 use Rattle.schedule.proofs.list.one_more.Needs as need
 
 -- the next task can always be appended
@@ -17,5 +15,5 @@ unreachable-requires c κs =
     let L = theLawful g in
     let t = c .next-task-t .result in
     let m = c .earliest-machine-m .result in
-    let F : Free G s t = subst (Free G s) (sym (c .next-task-t .ensures)) (next-is G (lawful-dag L) s (c .pre .1) .free) in
-    c .in-None .ensures tt .is (F, c .earliest-machine-m .ensures .low, omega (arith, start-reachable G L (c .pre .0) t m F))
+    let F : Free G s t = c .next-task-t .ensures .law (c .pre .1) .free in
+    c .in-None .ensures tt .is (F, c .earliest-machine-m .ensures .law .low, omega (arith, start-reachable G L (c .pre .0) t m F))
