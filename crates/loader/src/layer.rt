@@ -1,0 +1,10 @@
+// The layers that refuse.
+#[derive(Clone, Copy, PartialEq, Debug)]
+pub enum Layer {
+    Bytes,
+    Records,
+    Graph,
+    Search,
+    Check,
+    Page,
+}
