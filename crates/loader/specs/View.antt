@@ -23,5 +23,5 @@ graphOf tasks machines works count transfers = record {
     cost = λ k. getD transfers k blank .cost }
 
 -- whether one of the transfers leads from a to b
-abbrev pub leads : List Transfer → ℕ → ℕ → Bool
+unfoldable pub leads : List Transfer → ℕ → ℕ → Bool
 leads ts a b = any (length ts) (λ k. eqb (getD ts k blank .from) a && eqb (getD ts k blank .to) b)

@@ -3,9 +3,13 @@ use Prim.Native.Nat.{ℕ, _/_, _%_}
 use native.Mathlib.Omega.{arith}
 use lib.ListN.{length}
 use Rattle.model.specs.Cycles.{reach}
-use Rattle.loader.specs.View.{graphOf}
+use Rattle.loader.specs.View.{graphOf, leads}
 use Rattle.loader.proofs.Tables.{round}
 use Rattle.loader.proofs.cycles.closed.Needs as need
+
+pub loop-mid-holds : need.loop-mid-holds
+unfolding leads
+loop-mid-holds c p ws = c .direct-table .ensures
 
 pub loop-mid-again : need.loop-mid-again
 loop-mid-again c p ws =
