@@ -4,6 +4,7 @@ pub mod faults;
 pub mod graph;
 pub mod layer;
 pub mod levels;
+pub mod load;
 pub mod next;
 pub mod pairs;
 pub mod read;

@@ -95,7 +95,7 @@ fn read_next(bytes: &[u8], at: usize, tasks: usize, before: &[Transfer]) -> Resu
 // The transfers that follow the tasks.
 pub(crate) fn read_transfers(bytes: &[u8], tasks: usize) -> Result<TransferList, GraphFault>
     requires { ⌜ tasks ≤ 32 ⌝ ∗ ⌜ placeOf tasks 0 ≤ length (now bytes) ⌝ }
-    ensures { λ r. ⌜ Cases r (λ v. (v .count ≤ 128) × (readTransfers (now (bytes .entry)) tasks ≡ Ok (take (v .count) (v .list)))) (λ e. readTransfers (now (bytes .entry)) tasks ≡ Err e) ⌝ }
+    ensures { λ r. ⌜ Cases r (λ v. (v .count ≤ 128) × (length (v .list) ≡ 128) × (readTransfers (now (bytes .entry)) tasks ≡ Ok (take (v .count) (v .list)))) (λ e. readTransfers (now (bytes .entry)) tasks ≡ Err e) ⌝ }
 {
     let mut list = [Transfer { from: 0, to: 0, cost: 0 }; 128];
     let mut count = 0;

@@ -29,7 +29,7 @@ returns-in-End c =
     let v = c .loop-list in
     let m : take (v .count) (v .list) ≡ midOf 0 (v .count - 0) (v .list) = search needs in
     let q = ap (λ (ts : List Transfer). nextAt (c .args .bytes .now) (c .args .tasks) ts (placeOf (c .args .tasks) (v .count))) m in
-    (v .inv .3, transfers-end (c .args .bytes .now) (c .args .tasks) (v .count) (v .list) (omega arith) (v .inv .0) (v .inv .3) (q ∙ (sym (c .in-Continue-read-next .ensures tt) ∙ ap (λ (x : Next). Ok x) (c .in-End .is))))
+    (v .inv .3, v .inv .2, transfers-end (c .args .bytes .now) (c .args .tasks) (v .count) (v .list) (omega arith) (v .inv .0) (v .inv .3) (q ∙ (sym (c .in-Continue-read-next .ensures tt) ∙ ap (λ (x : Next). Ok x) (c .in-End .is))))
 
 pub loop-list-again : need.loop-list-again
 loop-list-again c =
