@@ -5,4 +5,5 @@ pub mod Bytes
 pub mod Records
 pub mod Parse
 pub mod Encoding
+pub mod Names
 pub mod Refusals

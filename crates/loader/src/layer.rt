@@ -1,3 +1,5 @@
+pub mod name;
+
 // The layers that refuse.
 #[derive(Clone, Copy, PartialEq, Debug)]
 pub enum Layer {

@@ -2,6 +2,7 @@ use crate::layer::Layer;
 use crate::layer::LayerDebug;
 use crate::layer::LayerPartialEq;
 
+pub mod display;
 pub mod from_fault;
 
 // What is told of a refusal: its number, the place, and the layer that refused.
