@@ -7,3 +7,4 @@ pub mod Parse
 pub mod Encoding
 pub mod Names
 pub mod Refusals
+pub mod Wording
