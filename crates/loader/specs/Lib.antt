@@ -1,2 +1,10 @@
 pub mod View
+pub mod Description
 pub mod Meaning
+pub mod Bytes
+pub mod Records
+pub mod Parse
+pub mod Encoding
+pub mod Names
+pub mod Refusals
+pub mod Wording

@@ -1,6 +1,9 @@
+use mathlib.Core.Bool.{Bool, _&&_}
 use mathlib.Core.List.{List}
 use Prim.Native.Nat.{ℕ}
-use lib.ListN.{getD}
+use lib.Dec.{eqb}
+use lib.ListN.{getD, length}
+use Rattle.model.specs.Range.{any}
 use Rattle.model.specs.Graph.{Graph}
 use Rattle.loader.specs.declared.transfer.Transfer.{Transfer}
 
@@ -18,3 +21,7 @@ graphOf tasks machines works count transfers = record {
     from = λ k. getD transfers k blank .from;
     to = λ k. getD transfers k blank .to;
     cost = λ k. getD transfers k blank .cost }
+
+-- whether one of the transfers leads from a to b
+unfoldable pub leads : List Transfer → ℕ → ℕ → Bool
+leads ts a b = any (length ts) (λ k. eqb (getD ts k blank .from) a && eqb (getD ts k blank .to) b)

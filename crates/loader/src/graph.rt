@@ -6,6 +6,7 @@ ghost use Rattle.loader.specs.View.{graphOf};
 use crate::transfer::Transfer;
 
 pub mod accessors;
+pub mod build;
 
 // A task graph. Its law is part of its type: no value breaks it. The first `tasks` works and levels
 // and the first `count` transfers are the graph's.

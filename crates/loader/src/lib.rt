@@ -1,2 +1,13 @@
+pub mod bytes;
+pub mod cycles;
+pub mod faults;
 pub mod graph;
+pub mod layer;
+pub mod levels;
+pub mod load;
+pub mod next;
+pub mod pairs;
+pub mod read;
+pub mod records;
+pub mod refusal;
 pub mod transfer;
