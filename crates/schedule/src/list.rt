@@ -4,7 +4,7 @@ ghost use Prim.Native.Nat.{ℕ, _<_, _≤_};
 ghost use lib.Dec.{eqb, ltb};
 ghost use lib.ListN.{getD};
 ghost use Rattle.model.specs.Schedule.{Feasible};
-ghost use Rattle.model.specs.Partial.{Complete, Unfinished, free?, whole};
+ghost use Rattle.model.specs.Partial.{Complete, Unfinished, free?, startOn, whole};
 ghost use Rattle.model.specs.Reachable.{Reachable};
 ghost use Rattle.loader.specs.Meaning.{theGraph, levelsOf};
 ghost use Rattle.partial.specs.Meaning.{thePartial};
@@ -35,6 +35,13 @@ pub fn next_task(g: &TaskGraph, q: &PartialSchedule) -> usize
     best
 }
 
+// Whether task t starts earlier on machine m than on the best so far.
+fn starts_earlier(g: &TaskGraph, q: &PartialSchedule, t: usize, m: u8, best: u8) -> bool
+    ensures { λ r. ⌜ r ≡ ltb (startOn (theGraph (now (g .entry))) (thePartial (now (q .entry))) t m) (startOn (theGraph (now (g .entry))) (thePartial (now (q .entry))) t best) ⌝ }
+{
+    q.start_on(g, t, m) < q.start_on(g, t, best)
+}
+
 // The machine where task t starts earliest, among equals the lowest.
 pub fn earliest_machine(g: &TaskGraph, q: &PartialSchedule, t: usize) -> u8
     ensures is { λ r. ⌜ r ≡ earliest (theGraph (now (g .entry))) (thePartial (now (q .entry))) t (theGraph (now (g .entry)) .machines) ⌝ }
@@ -42,7 +49,7 @@ pub fn earliest_machine(g: &TaskGraph, q: &PartialSchedule, t: usize) -> u8
 {
     let mut best: u8 = 0;
     for m in 0..g.machines() as u8 {
-        if q.start_on(g, t, m) < q.start_on(g, t, best) {
+        if starts_earlier(g, q, t, m, best) {
             best = m;
         }
     }
