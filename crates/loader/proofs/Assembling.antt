@@ -15,7 +15,7 @@ use Rattle.loader.specs.declared.faults.GraphFault.the-variants.{Cycle}
 use Rattle.loader.specs.declared.transfer.Transfer.{Transfer}
 use Rattle.loader.specs.View.{graphOf}
 use Rattle.loader.specs.Description.{Description, described}
-use Rattle.loader.specs.Records.{placeOf}
+use Rattle.loader.specs.Layout.{placeOf}
 use Rattle.loader.specs.Parse.{headerAt, readWorks, readTransfers, endAt, decode, cycleTest, parse}
 use Rattle.loader.proofs.Chaining.{andThen-at, refuse-ok}
 use Rattle.loader.proofs.Decoding.{decode-told}

@@ -5,7 +5,7 @@ use Prim.Native.Nat.{ℕ}
 use native.Mathlib.Omega.{arith}
 use Rattle.std.specs.declared.result.Result.{Result}
 use Rattle.std.specs.declared.result.Result.the-variants.{Ok, Err}
-use Rattle.loader.specs.Records.{andThen}
+use Rattle.loader.specs.Chaining.{andThen}
 
 pub ok-err : {A E : Type 0} (x : A) (e : E) → _≡_ {A = Result A E} (Ok x) (Err e) → ⊥
 ok-err {A = A} {E = E} x e h = let z : _≡_ {A = ℕ} 0 1 = cc in omega arith

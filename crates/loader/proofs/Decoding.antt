@@ -8,7 +8,8 @@ use Rattle.std.specs.declared.result.Result.the-variants.{Ok, Err}
 use Rattle.loader.specs.declared.transfer.Transfer.{Transfer}
 use Rattle.loader.specs.View.{blank}
 use Rattle.loader.specs.Description.{Description, described}
-use Rattle.loader.specs.Records.{andThen, placeOf}
+use Rattle.loader.specs.Chaining.{andThen}
+use Rattle.loader.specs.Layout.{placeOf}
 use Rattle.loader.specs.Parse.{headerAt, readWorks, readTransfers, endAt, decode}
 use Rattle.loader.specs.Encoding.{Encodes, LawfulButForCycles}
 use Rattle.loader.proofs.Chaining.{andThen-ok, andThen-at}
@@ -27,7 +28,7 @@ decode-reads bs d s l =
     let i = placeOf n (length ts) + 4 in
     let w : readWorks bs n ≡ Ok (d .works) = works-read bs (d .works) n (omega arith) (s .all, λ k h. (s .task k h, l .works k h)) n (omega arith) ∙ ap (λ (x : List ℕ). Ok x) (take-all n (d .works) (omega (arith, s .all))) in
     let t : readTransfers bs n ≡ Ok ts = transfers-read bs n ts
-        (record { few = y .4; shown = λ k h. (s .transfer k h, (l .ends k h .0, l .ends k h .1, l .costs k h, l .apart k h)); pairs = l .pairs }) (s .last, omega arith) in
+    (record { few = y .4; shown = λ k h. (s .transfer k h, (l .ends k h .0, l .ends k h .1, l .costs k h, l .apart k h)); pairs = l .pairs }) (s .last, omega arith) in
     andThen-at (headerAt bs) _ (n, d .machines) (Ok d) (header-reads bs n (d .machines) (omega arith) (f .0) (f .1) (f .2) (f .3) (y .0, y .1, y .2, y .3))
     (andThen-at (readWorks bs n) _ (d .works) (Ok d) w
     (andThen-at (readTransfers bs n) _ ts (Ok d) t
@@ -49,18 +50,21 @@ decode-told bs d e =
     let t = transfers-told bs n ts (r .1) in
     let x = tail-told bs i (v .0) (v .1) in
     let c = t .1 .1 in
-    subst (λ (m : Description). Encodes bs m × LawfulButForCycles (described m)) is
-    ( record {
+    subst (λ (m : Description). Encodes bs m × LawfulButForCycles (described m)) is (
+      record {
         long = omega arith;
         all = w .0;
         first = header-told bs n (p .0 .1) (p .1);
         task = λ k lt. w .1 k lt .0;
         transfer = λ k lt. t .0 .shown k lt .0;
-        last = t .1 .0 }
-    , record {
+        last = t .1 .0;
+      },
+      record {
         sizes = (h .0, h .1, h .2, h .3, t .0 .few);
         works = λ k lt. w .1 k lt .1;
         costs = λ k lt. t .0 .shown k lt .1 .2;
         ends = λ k lt. let g = t .0 .shown k lt .1 in (g .0, g .1);
         apart = λ k lt. t .0 .shown k lt .1 .3;
-        pairs = t .0 .pairs })
+        pairs = t .0 .pairs;
+      },
+    )

@@ -16,7 +16,9 @@ use Rattle.loader.specs.declared.next.Next.{Next}
 use Rattle.loader.specs.declared.next.Next.the-variants.{End, More}
 use Rattle.loader.specs.View.{leads}
 use Rattle.loader.specs.Bytes.{wordAt}
-use Rattle.loader.specs.Records.{andThen, lifted, dueAt, moreAt, placeOf}
+use Rattle.loader.specs.Chaining.{andThen, lifted}
+use Rattle.loader.specs.Layout.{placeOf}
+use Rattle.loader.specs.Records.{dueAt, moreAt}
 use Rattle.loader.specs.Parse.{headerAt, workAt, readWorks, transferAt, nextAt, Progress, reading, ended, refused, taken, step, after, finish, readTransfers, endAt, decode}
 use Rattle.loader.specs.Refusals.{refusalOf}
 
@@ -69,9 +71,9 @@ choice-plain false r p = tt
 
 next-plain : (bs : List ℕ) (n : ℕ) (ts : List Transfer) (i : ℕ) → Plain (nextAt bs n ts i)
 next-plain bs n ts i = then-plain (lifted Records (moreAt bs i)) _ (lifted-plain (moreAt bs i)) (λ m. choice-plain m (transferAt bs n ts i) (tests-plain
-      (ltb (wordAt bs (i + 4)) n && (ltb (wordAt bs (i + 6)) n && (leb (wordAt bs (i + 8)) 1000 && not (eqb (wordAt bs (i + 4)) (wordAt bs (i + 6))))))
-      (ltb (length ts) 128) (leads ts (wordAt bs (i + 4)) (wordAt bs (i + 6)))
-      (More (record { from = wordAt bs (i + 4); to = wordAt bs (i + 6); cost = wordAt bs (i + 8) })) i))
+    (ltb (wordAt bs (i + 4)) n && (ltb (wordAt bs (i + 6)) n && (leb (wordAt bs (i + 8)) 1000 && not (eqb (wordAt bs (i + 4)) (wordAt bs (i + 6))))))
+    (ltb (length ts) 128) (leads ts (wordAt bs (i + 4)) (wordAt bs (i + 6)))
+    (More (record { from = wordAt bs (i + 4); to = wordAt bs (i + 6); cost = wordAt bs (i + 8) })) i))
 
 abbrev PlainSoFar : Progress → Type 0
 PlainSoFar (reading ts) = Unit {0}

@@ -53,26 +53,28 @@ pub cycle-told : (bs : List ℕ) (e : GraphFault) → parse bs ≡ Err e → Ref
 cycle-told bs e h eight =
     ⊎-elim (λ x. absurd (decode-early bs e x eight))
     (λ y. let x = y .0 in
-      let g = described x in
-      let q = refuse-err (ltb (cyclic g) (x .tasks)) (Cycle (8 + 6 * cyclic g)) e x (y .2) in
-      let t = decode-told bs x (y .1) in
-      (x, cyclic g, t .0, t .1, cyclic-lowest g (t .1 .ends) (ltb-true _ _ (q .0)), ap (λ (f : GraphFault). refusalOf f .place) (sym (q .1))))
+    let g = described x in
+    let q = refuse-err (ltb (cyclic g) (x .tasks)) (Cycle (8 + 6 * cyclic g)) e x (y .2) in
+    let t = decode-told bs x (y .1) in
+    (x, cyclic g, t .0, t .1, cyclic-lowest g (t .1 .ends) (ltb-true _ _ (q .0)), ap (λ (f : GraphFault). refusalOf f .place) (sym (q .1))))
     (andThen-err (decode bs) cycleTest e h)
 
 -- there is one lowest task on a cycle
 lowest-once : (g : Graph) (t u : ℕ) → LowestOnCycle g t → LowestOnCycle g u → t ≡ u
 lowest-once g t u a b = elim (decLt t u) [
-    yes h ↦ absurd (b .2 t h (a .1))
-  | no h ↦ elim (decLt u t) [ yes k ↦ absurd (a .2 u k (b .1)) | no k ↦ omega arith ] ]
+  | yes h ↦ absurd (b .2 t h (a .1))
+  | no h ↦ elim (decLt u t) [ yes k ↦ absurd (a .2 u k (b .1)) | no k ↦ omega arith ]
+]
 
 -- and wherever there is a cycle, and nothing else is wrong, it is told
 pub cycle-refused : (bs : List ℕ) (d : Description) (t : ℕ) → Encodes bs d → LawfulButForCycles (described d) → LowestOnCycle (described d) t → parse bs ≡ Err (Cycle (8 + 6 * t))
 cycle-refused bs d t s l low =
     let g = described d in
     elim (decLt (cyclic g) (d .tasks)) [
-      yes h ↦ let q : cyclic g ≡ t = lowest-once g (cyclic g) t (cyclic-lowest g (l .ends) h) low in
-        andThen-at (decode bs) cycleTest d (Err (Cycle (8 + 6 * t))) (decode-reads bs d s l) (cond-true _ _ _ (lt-ltb _ _ h) ∙ ap (λ (v : ℕ). Err (Cycle (8 + 6 * v))) q)
-    | no h ↦ absurd (cyclic-none g (l .ends) (omega (arith, h)) t (low .1)) ]
+      | yes h ↦ let q : cyclic g ≡ t = lowest-once g (cyclic g) t (cyclic-lowest g (l .ends) h) low in
+          andThen-at (decode bs) cycleTest d (Err (Cycle (8 + 6 * t))) (decode-reads bs d s l) (cond-true _ _ _ (lt-ltb _ _ h) ∙ ap (λ (v : ℕ). Err (Cycle (8 + 6 * v))) q)
+      | no h ↦ absurd (cyclic-none g (l .ends) (omega (arith, h)) t (low .1))
+    ]
 
 pub cycle-only : {A : Type 0} (bs : List ℕ) (e : GraphFault) → parse bs ≡ Err e → (d : Description) (t : ℕ) → Encodes bs d → LawfulButForCycles (described d) → LowestOnCycle (described d) t → _≡_ {A = Result A GraphFault} (Err e) (Err (Cycle (8 + 6 * t)))
 cycle-only {A} bs e h d t s l low = let k = cycle-refused bs d t s l low in let q : e ≡ Cycle (8 + 6 * t) = cc in ap (λ (f : GraphFault). Err f) q

@@ -13,7 +13,8 @@ use Rattle.loader.specs.declared.faults.GraphFault.{GraphFault}
 use Rattle.loader.specs.declared.transfer.Transfer.{Transfer}
 use Rattle.loader.specs.declared.next.Next.{Next}
 use Rattle.loader.specs.declared.next.Next.the-variants.{End, More}
-use Rattle.loader.specs.Records.{andThen, placeOf}
+use Rattle.loader.specs.Chaining.{andThen}
+use Rattle.loader.specs.Layout.{placeOf}
 use Rattle.loader.specs.Parse.{workAt, readWorks, nextAt, Progress, reading, ended, refused, taken, step, after, finish, readTransfers}
 
 -- ---- the works

@@ -16,7 +16,7 @@ use Rattle.loader.specs.declared.transfer.Transfer.{Transfer}
 use Rattle.loader.specs.declared.next.Next.{Next}
 use Rattle.loader.specs.declared.next.Next.the-variants.{End, More}
 use Rattle.loader.specs.View.{blank, leads}
-use Rattle.loader.specs.Records.{placeOf}
+use Rattle.loader.specs.Layout.{placeOf}
 use Rattle.loader.specs.Parse.{nextAt, Progress, reading, ended, refused, taken, step, after, finish, readTransfers}
 use Rattle.loader.specs.Encoding.{RecordAt, TransferAt}
 use Rattle.loader.proofs.PairSearch.{leads-hit, pair-new}
@@ -47,20 +47,21 @@ module _ (bs : List ℕ) (n : ℕ) where
       record {
         few = omega arith;
         shown = λ k lt. ⊎-elim
-          (λ in′. let d : getD (ts ++ t ∷ []) k blank ≡ getD ts k blank = getD-append-left ts (t ∷ []) blank k in′ in subst (Shown k) (sym d) (f .shown k in′))
-          (λ ge. let q : length ts ≡ k = omega arith in
-              let d : getD (ts ++ t ∷ []) k blank ≡ t = getD-push ts t blank k q in
-              subst (Shown k) (sym d) (subst (λ (v : ℕ). Shown v t) q m))
-          (cases-lt k (length ts));
+            (λ in′. let d : getD (ts ++ t ∷ []) k blank ≡ getD ts k blank = getD-append-left ts (t ∷ []) blank k in′ in subst (Shown k) (sym d) (f .shown k in′))
+            (λ ge. let q : length ts ≡ k = omega arith in
+            let d : getD (ts ++ t ∷ []) k blank ≡ t = getD-push ts t blank k q in
+            subst (Shown k) (sym d) (subst (λ (v : ℕ). Shown v t) q m))
+            (cases-lt k (length ts));
         pairs = λ i j s.
-          let e : getD (ts ++ t ∷ []) i blank ≡ getD ts i blank = getD-append-left ts (t ∷ []) blank i (omega (arith, s .0, s .1)) in
-          ⊎-elim
-          (λ lt. let d : getD (ts ++ t ∷ []) j blank ≡ getD ts j blank = getD-append-left ts (t ∷ []) blank j lt in
+            let e : getD (ts ++ t ∷ []) i blank ≡ getD ts i blank = getD-append-left ts (t ∷ []) blank i (omega (arith, s .0, s .1)) in
+            ⊎-elim
+            (λ lt. let d : getD (ts ++ t ∷ []) j blank ≡ getD ts j blank = getD-append-left ts (t ∷ []) blank j lt in
             f .pairs i j (s .0, lt, ap (λ (x : Transfer). x .from) (sym e) ∙ (s .2 ∙ ap (λ (x : Transfer). x .from) d), ap (λ (x : Transfer). x .to) (sym e) ∙ (s .3 ∙ ap (λ (x : Transfer). x .to) d)))
-          (λ ge. let d : getD (ts ++ t ∷ []) j blank ≡ t = getD-push ts t blank j (omega (arith, s .1)) in
+            (λ ge. let d : getD (ts ++ t ∷ []) j blank ≡ t = getD-push ts t blank j (omega (arith, s .1)) in
             both-ways _ new (leads-hit ts i (t .from) (t .to) (omega (arith, s .0, s .1))
-              (ap (λ (x : Transfer). x .from) (sym e) ∙ (s .2 ∙ ap (λ (x : Transfer). x .from) d)) (ap (λ (x : Transfer). x .to) (sym e) ∙ (s .3 ∙ ap (λ (x : Transfer). x .to) d))))
-          (cases-lt j (length ts)) }
+            (ap (λ (x : Transfer). x .from) (sym e) ∙ (s .2 ∙ ap (λ (x : Transfer). x .from) d)) (ap (λ (x : Transfer). x .to) (sym e) ∙ (s .3 ∙ ap (λ (x : Transfer). x .to) d))))
+            (cases-lt j (length ts));
+      }
 
   -- what is read stands in the records
   abbrev Told : Progress → Type 0

@@ -10,7 +10,7 @@ use Rattle.std.proofs.shelf.Lists.{getD-append-left, getD-push, length-push, ta
 use Rattle.std.specs.declared.result.Result.{Result}
 use Rattle.std.specs.declared.result.Result.the-variants.{Ok, Err}
 use Rattle.loader.specs.declared.faults.GraphFault.{GraphFault}
-use Rattle.loader.specs.Records.{andThen}
+use Rattle.loader.specs.Chaining.{andThen}
 use Rattle.loader.specs.Parse.{workAt, readWorks}
 use Rattle.loader.specs.Encoding.{TaskAt}
 use Rattle.loader.proofs.Chaining.{andThen-ok}
@@ -25,14 +25,15 @@ abbrev pub ShownAll : List ℕ → ℕ → List ℕ → Type 0
 ShownAll bs n ws = (length ws ≡ n) × ((k : ℕ) → k < n → Shown bs k (getD ws k 0))
 
 push : (bs : List ℕ) (k w : ℕ) (ws : List ℕ) → ShownAll bs k ws → Shown bs k w → ShownAll bs (suc k) (ws ++ w ∷ [])
-push bs k w ws g r =
-    ( omega (arith, length-push ws w)
-    , λ j h. ⊎-elim
-        (λ lt. let e : getD (ws ++ w ∷ []) j 0 ≡ getD ws j 0 = getD-append-left ws (w ∷ []) 0 j (omega arith) in subst (Shown bs j) (sym e) (g .1 j lt))
-        (λ ge. let e : getD (ws ++ w ∷ []) j 0 ≡ w = getD-push ws w 0 j (omega arith) in
-            let q : k ≡ j = omega arith in
-            subst (Shown bs j) (sym e) (subst (λ (v : ℕ). Shown bs v w) q r))
-        (cases-lt j k))
+push bs k w ws g r = (
+  omega (arith, length-push ws w),
+  λ j h. ⊎-elim
+      (λ lt. let e : getD (ws ++ w ∷ []) j 0 ≡ getD ws j 0 = getD-append-left ws (w ∷ []) 0 j (omega arith) in subst (Shown bs j) (sym e) (g .1 j lt))
+      (λ ge. let e : getD (ws ++ w ∷ []) j 0 ≡ w = getD-push ws w 0 j (omega arith) in
+      let q : k ≡ j = omega arith in
+      subst (Shown bs j) (sym e) (subst (λ (v : ℕ). Shown bs v w) q r))
+      (cases-lt j k),
+)
 
 -- what is read stands in the records
 pub works-told : (bs : List ℕ) (k : ℕ) (ws : List ℕ) → readWorks bs k ≡ Ok ws → ShownAll bs k ws

@@ -7,7 +7,7 @@ use Rattle.loader.specs.declared.transfer.Transfer.{Transfer}
 use Rattle.loader.specs.View.{blank}
 use Rattle.loader.specs.Description.{Description}
 use Rattle.loader.specs.Bytes.{wordAt}
-use Rattle.loader.specs.Records.{placeOf}
+use Rattle.loader.specs.Layout.{placeOf}
 
 -- a record of this kind and payload length begins at byte i
 abbrev pub RecordAt : List ℕ → ℕ → ℕ → ℕ → Type 0

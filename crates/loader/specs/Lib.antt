@@ -1,6 +1,8 @@
 pub mod View
 pub mod Description
 pub mod Meaning
+pub mod Layout
+pub mod Chaining
 pub mod Bytes
 pub mod Records
 pub mod Parse

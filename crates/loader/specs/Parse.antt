@@ -15,7 +15,9 @@ use Rattle.loader.specs.declared.next.Next.the-variants.{End, More}
 use Rattle.loader.specs.View.{leads}
 use Rattle.loader.specs.Description.{Description, described}
 use Rattle.loader.specs.Bytes.{wordAt}
-use Rattle.loader.specs.Records.{andThen, lifted, dueAt, moreAt, placeOf}
+use Rattle.loader.specs.Chaining.{andThen, lifted}
+use Rattle.loader.specs.Layout.{placeOf}
+use Rattle.loader.specs.Records.{dueAt, moreAt}
 
 abbrev pub within : ℕ → ℕ → ℕ → Bool
 within low high x = leb low x && leb x high

@@ -1,22 +1,13 @@
 use mathlib.Core.List.{List}
 use mathlib.Core.Bool.{Bool, true, false, cond}
-use Prim.Native.Nat.{ℕ, _+_, _*_}
+use Prim.Native.Nat.{ℕ, _+_}
 use lib.Dec.{eqb}
 use Rattle.std.specs.declared.result.Result.{Result}
 use Rattle.std.specs.declared.result.Result.the-variants.{Ok, Err}
 use Rattle.loader.specs.declared.faults.RecordsFault.{RecordsFault}
 use Rattle.loader.specs.declared.faults.RecordsFault.the-variants.{Bytes, Kind, Length}
+use Rattle.loader.specs.Chaining.{andThen, lifted}
 use Rattle.loader.specs.Bytes.{headAt}
-
--- one test after another
-abbrev pub andThen : {A B E : Type 0} → Result A E → (A → Result B E) → Result B E
-andThen (Ok x) f = f x
-andThen (Err e) f = Err e
-
--- a fault of the layer below
-abbrev pub lifted : {A E F : Type 0} → (E → F) → Result A E → Result A F
-lifted f (Ok x) = Ok x
-lifted f (Err e) = Err (f e)
 
 -- the byte where the payload begins, if it has the length that is due
 abbrev pub payloadOf : ℕ → ℕ → ℕ → Result ℕ RecordsFault
@@ -29,7 +20,3 @@ dueAt bs i kind length = andThen (lifted Bytes (headAt bs i)) (λ h. cond (eqb (
 -- after the tasks: whether the record at byte i is a transfer, and not the last record
 abbrev pub moreAt : List ℕ → ℕ → Result Bool RecordsFault
 moreAt bs i = andThen (lifted Bytes (headAt bs i)) (λ h. cond (eqb (h .kind) 3) (andThen (payloadOf (h .payload) 6 i) (λ _. Ok true)) (cond (eqb (h .kind) 4) (andThen (payloadOf (h .payload) 0 i) (λ _. Ok false)) (Err (Kind i))))
-
--- where the record after the tasks and k transfers begins
-abbrev pub placeOf : ℕ → ℕ → ℕ
-placeOf tasks k = 8 + 6 * tasks + 10 * k

@@ -14,13 +14,14 @@ blank = record { from = 0; to = 0; cost = 0 }
 -- the graph of so many tasks and machines, with these works and transfers
 abbrev pub graphOf : ℕ → ℕ → List ℕ → ℕ → List Transfer → Graph
 graphOf tasks machines works count transfers = record {
-    tasks = tasks;
-    machines = machines;
-    count = count;
-    work = λ t. getD works t 0;
-    from = λ k. getD transfers k blank .from;
-    to = λ k. getD transfers k blank .to;
-    cost = λ k. getD transfers k blank .cost }
+  tasks = tasks;
+  machines = machines;
+  count = count;
+  work = λ t. getD works t 0;
+  from = λ k. getD transfers k blank .from;
+  to = λ k. getD transfers k blank .to;
+  cost = λ k. getD transfers k blank .cost;
+}
 
 -- whether one of the transfers leads from a to b
 unfoldable pub leads : List Transfer → ℕ → ℕ → Bool

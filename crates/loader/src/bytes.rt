@@ -38,5 +38,8 @@ pub(crate) fn read_head(bytes: &[u8], at: usize) -> Result<Head, BytesFault>
     if rest.len() < payload {
         return Err(BytesFault { place: at });
     }
-    Ok(Head { payload, kind: pair(*k0, *k1) })
+    Ok(Head {
+        payload,
+        kind: pair(*k0, *k1),
+    })
 }

@@ -14,7 +14,11 @@ fn brought(transfers: &[Transfer], low: &[u32; 32], t: usize, k: usize) -> u32
     ensures { λ r. ⌜ r ≡ cond (eqb (getD (now (transfers .entry)) k blank .from) t) (getD (now (low .entry)) (getD (now (transfers .entry)) k blank .to) 0) 0 ⌝ }
 {
     let e = transfers[k];
-    if e.from as usize == t { low[e.to as usize] } else { 0 }
+    if e.from as usize == t {
+        low[e.to as usize]
+    } else {
+        0
+    }
 }
 
 // The greatest level after task `t`, or 0.

@@ -7,7 +7,7 @@ ghost use Rattle.model.specs.Graph.{Lawful};
 ghost use Rattle.model.specs.Cycles.{LowestOnCycle};
 ghost use Rattle.loader.specs.declared.faults.GraphFault.the-variants.{Cycle};
 ghost use Rattle.loader.specs.Description.{Description, described};
-ghost use Rattle.loader.specs.Meaning.{description};
+ghost use Rattle.loader.specs.Meaning.{description, theGraph};
 ghost use Rattle.loader.specs.Parse.{parse, cycleTest};
 ghost use Rattle.loader.specs.Encoding.{Encodes, LawfulButForCycles};
 ghost use Rattle.loader.specs.Refusals.{RefusedCycle};
@@ -47,6 +47,7 @@ fn read(bytes: &[u8]) -> Result<TaskGraph, GraphFault>
 // Replaces the graph by the one that the file describes, or leaves it as it is.
 pub fn load(graph: &mut TaskGraph, bytes: &[u8]) -> Result<(), GraphFault>
     ensures is { λ r. ⌜ Cases r (λ _. parse (now (bytes .entry)) ≡ Ok (description (now (graph .exit)))) (λ e. (parse (now (bytes .entry)) ≡ Err e) × (now (graph .exit) ≡ now (graph .entry))) ⌝ }
+    ensures means { λ r. ⌜ Cases r (λ _. described (description (now (graph .exit))) ≡ theGraph (now (graph .exit))) (λ _. Unit {0}) ⌝ }
     ensures exactly { λ r. ⌜ Cases r (λ _. Encodes (now (bytes .entry)) (description (now (graph .exit))) × Lawful (described (description (now (graph .exit))))) (λ _. (d : Description) → Encodes (now (bytes .entry)) d → Lawful (described d) → ⊥) ⌝ }
     ensures cycle { λ r. ⌜ Cases r (λ _. Unit {0}) (λ e. RefusedCycle (now (bytes .entry)) e) ⌝ }
     ensures cyclic { λ r. ⌜ ((d : Description) (t : ℕ) → Encodes (now (bytes .entry)) d → LawfulButForCycles (described d) → LowestOnCycle (described d) t → r ≡ Err (Cycle (8 + 6 * t))) ⌝ }

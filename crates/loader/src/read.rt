@@ -3,7 +3,7 @@ ghost use Prim.Native.Nat.{ℕ, _+_, _*_, _<_, _≤_};
 ghost use lib.ListN.{length, take};
 ghost use Rattle.std.specs.Results.{Cases};
 ghost use Rattle.std.specs.declared.result.Result.the-variants.{Ok, Err};
-ghost use Rattle.loader.specs.Records.{placeOf};
+ghost use Rattle.loader.specs.Layout.{placeOf};
 ghost use Rattle.loader.specs.Parse.{headerAt, workAt, readWorks, transferAt, nextAt, readTransfers, endAt};
 use crate::bytes::number;
 use crate::faults::GraphFault;
@@ -61,7 +61,12 @@ pub(crate) fn read_works(bytes: &[u8], tasks: usize) -> Result<[u16; 32], GraphF
 }
 
 // The transfer that the record at `at` gives, after those before it.
-fn read_transfer(bytes: &[u8], at: usize, tasks: usize, before: &[Transfer]) -> Result<Next, GraphFault>
+fn read_transfer(
+    bytes: &[u8],
+    at: usize,
+    tasks: usize,
+    before: &[Transfer],
+) -> Result<Next, GraphFault>
     requires { ⌜ at + 10 ≤ length (now bytes) ⌝ }
     ensures { λ r. ⌜ r ≡ transferAt (now (bytes .entry)) tasks (now (before .entry)) at ⌝ }
 {
@@ -97,7 +102,11 @@ pub(crate) fn read_transfers(bytes: &[u8], tasks: usize) -> Result<TransferList,
     requires { ⌜ tasks ≤ 32 ⌝ ∗ ⌜ placeOf tasks 0 ≤ length (now bytes) ⌝ }
     ensures { λ r. ⌜ Cases r (λ v. (v .count ≤ 128) × (length (v .list) ≡ 128) × (readTransfers (now (bytes .entry)) tasks ≡ Ok (take (v .count) (v .list)))) (λ e. readTransfers (now (bytes .entry)) tasks ≡ Err e) ⌝ }
 {
-    let mut list = [Transfer { from: 0, to: 0, cost: 0 }; 128];
+    let mut list = [Transfer {
+        from: 0,
+        to: 0,
+        cost: 0,
+    }; 128];
     let mut count = 0;
     loop {
         match read_next(bytes, 8 + 6 * tasks + 10 * count, tasks, &list[0..count])? {

@@ -23,10 +23,11 @@ pub missing-put : (f : ℕ → Bool) (t n : ℕ) → t < n → f t ≡ false →
 unfolding missing
 missing-put f t zero h e = absurd (omega arith)
 missing-put f t (suc n) h e = elim (ℕ-discrete n t) [
-    yes q ↦ let a : missing (put f t true) n ≡ missing f n = missing-alike (put f t true) f n (λ u l. put-other f t true u (omega arith)) in
-            let b : f n ≡ false = ap f q ∙ e in
-            rw (put-same f t true n q, b, a) (omega arith)
-  | no ne ↦ rw (put-other f t true n ne) (omega (arith, missing-put f t n (omega arith) e)) ]
+  | yes q ↦ let a : missing (put f t true) n ≡ missing f n = missing-alike (put f t true) f n (λ u l. put-other f t true u (omega arith)) in
+      let b : f n ≡ false = ap f q ∙ e in
+      rw (put-same f t true n q, b, a) (omega arith)
+  | no ne ↦ rw (put-other f t true n ne) (omega (arith, missing-put f t n (omega arith) e))
+]
 
 pub all-missing : (n : ℕ) → missing (λ _. false) n ≡ n
 unfolding missing
@@ -57,4 +58,3 @@ missing-le f (suc n) = go (f n) (missing-le f n)
     go : (b : Bool) → missing f n ≤ n → missing f n + cond b 0 1 ≤ suc n
     go true h = omega arith
     go false h = omega arith
-

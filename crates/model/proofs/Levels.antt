@@ -34,9 +34,10 @@ reaches g (suc k) t = pick (λ u. reaches g k u) (top-is (g .count) (step g k t)
     pick : ((u : ℕ) → ChainWork g u (longest g k u)) → (top (g .count) (step g k t) ≡ 0) ⊎ ((e : ℕ) × (e < g .count) × (top (g .count) (step g k t) ≡ step g k t e)) → ChainWork g t (g .work t + top (g .count) (step g k t))
     pick ih (inl z) = subst (ChainWork g t) (let q : g .work t ≡ g .work t + top (g .count) (step g k t) = omega arith in q) stop
     pick ih (inr x) = elim (ℕ-discrete (g .from (x .0)) t) [
-        yes q ↦ subst (λ v. ChainWork g t (g .work t + v)) (sym (x .2 ∙ rw (eq-eqb (g .from (x .0)) t q))) (go (x .0) (x .1) q (ih (g .to (x .0))))
+      | yes q ↦ subst (λ v. ChainWork g t (g .work t + v)) (sym (x .2 ∙ rw (eq-eqb (g .from (x .0)) t q))) (go (x .0) (x .1) q (ih (g .to (x .0))))
       | no nq ↦ let z : top (g .count) (step g k t) ≡ 0 = x .2 ∙ rw (ne-eqb (g .from (x .0)) t nq) in
-                subst (ChainWork g t) (let q : g .work t ≡ g .work t + top (g .count) (step g k t) = omega arith in q) stop ]
+          subst (ChainWork g t) (let q : g .work t ≡ g .work t + top (g .count) (step g k t) = omega arith in q) stop
+    ]
 
 -- and none is greater, since a chain without rings feasible a task once
 above : (g : Graph) → Dag g → (t v : ℕ) → ChainWork g t v → (k : ℕ) (V : ℕ → Bool) → t < g .tasks → missing V (g .tasks) ≤ suc k → ((u : ℕ) → V u ≡ true → Chain g u t) → v ≤ longest g k t
@@ -49,9 +50,10 @@ above g S t v (go {v = w} e he q s) k V ht hk K = pass (V t) refl k hk (above g 
         let l : Chain g (g .from e) (g .to e) = link e he in
         let l2 : Chain g t (g .to e) = subst (λ x. Chain g x (g .to e)) q l in
         elim (ℕ-discrete u t) [ yes z ↦ subst (λ x. Chain g x (g .to e)) (sym z) l2 | no nz ↦ join (K u (sym (put-other V t true u nz) ∙ p)) l2 ]
+
     pass : (b : Bool) → V t ≡ b → (k : ℕ) → missing V (g .tasks) ≤ suc k
-      → ((k : ℕ) (V : ℕ → Bool) → g .to e < g .tasks → missing V (g .tasks) ≤ suc k → ((u : ℕ) → V u ≡ true → Chain g u (g .to e)) → w ≤ longest g k (g .to e))
-      → g .work t + w ≤ longest g k t
+        → ((k : ℕ) (V : ℕ → Bool) → g .to e < g .tasks → missing V (g .tasks) ≤ suc k → ((u : ℕ) → V u ≡ true → Chain g u (g .to e)) → w ≤ longest g k (g .to e))
+        → g .work t + w ≤ longest g k t
     pass true b k hk ih = absurd (S .acyclic t (K t b))
     pass false b zero hk ih = absurd (next (put V t true (g .to e)) refl)
       where
@@ -84,8 +86,8 @@ longest-small g E W (suc k) t h = go (longest-small g E W k)
 
 -- one round of relaxation
 pub longest-more : (g : Graph) → Ends g → (low : ℕ → ℕ) (k : ℕ) → ((t : ℕ) → t < g .tasks → low t ≡ longest g k t) → (t : ℕ)
-  → g .work t + top (g .count) (λ e. cond (eqb (g .from e) t) (low (g .to e)) 0) ≡ longest g (k + 1) t
+    → g .work t + top (g .count) (λ e. cond (eqb (g .from e) t) (low (g .to e)) 0) ≡ longest g (k + 1) t
 longest-more g E low k h t =
     ap (λ (x : ℕ). g .work t + x) (top-same (g .count) (λ e. cond (eqb (g .from e) t) (low (g .to e)) 0) (λ e. cond (eqb (g .from e) t) (longest g k (g .to e)) 0)
-      (λ e he. ap (λ (x : ℕ). cond (eqb (g .from e) t) x 0) (h (g .to e) (E e he .1))))
+    (λ e he. ap (λ (x : ℕ). cond (eqb (g .from e) t) x 0) (h (g .to e) (E e he .1))))
     ∙ sym (ap (λ (j : ℕ). longest g j t) (add-one k))

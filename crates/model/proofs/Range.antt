@@ -21,8 +21,8 @@ pub le-top : (n : ℕ) (f : ℕ → ℕ) (k : ℕ) → k < n → f k ≤ top n f
 le-top zero f k h = absurd (omega arith)
 le-top (suc n) f k h =
     elim (ℕ-discrete k n) [
-      yes e ↦ let e2 : f k ≡ f n = ap f e in omega arith
-    | no ne ↦ omega (arith, le-top n f k (omega arith))
+      | yes e ↦ let e2 : f k ≡ f n = ap f e in omega arith
+      | no ne ↦ omega (arith, le-top n f k (omega arith))
     ]
 
 pub top-le : (n : ℕ) (f : ℕ → ℕ) (y : ℕ) → ((k : ℕ) → k < n → f k ≤ y) → top n f ≤ y
@@ -78,15 +78,17 @@ every-not (suc n) f e = go (every n f) refl (f n) refl (every-not n f)
 pub every-off : (n k : ℕ) (f : ℕ → Bool) → k < n → f k ≡ false → every n f ≡ false
 every-off zero k f h e = absurd (omega arith)
 every-off (suc n) k f h e = elim (ℕ-discrete k n) [
-    yes q ↦ let z : f n ≡ false = sym (ap f q) ∙ e in and-right (every n f) (f n) z
-  | no ne ↦ rw (every-off n k f (omega arith) e) ]
+  | yes q ↦ let z : f n ≡ false = sym (ap f q) ∙ e in and-right (every n f) (f n) z
+  | no ne ↦ rw (every-off n k f (omega arith) e)
+]
 
 pub any-on : (n k : ℕ) (f : ℕ → Bool) → k < n → f k ≡ true → any n f ≡ true
 unfolding any
 any-on zero k f h e = absurd (omega arith)
 any-on (suc n) k f h e = elim (ℕ-discrete k n) [
-    yes q ↦ let z : f n ≡ true = sym (ap f q) ∙ e in or-right (any n f) (f n) z
-  | no ne ↦ rw (any-on n k f (omega arith) e) ]
+  | yes q ↦ let z : f n ≡ true = sym (ap f q) ∙ e in or-right (any n f) (f n) z
+  | no ne ↦ rw (any-on n k f (omega arith) e)
+]
 
 pub any-off : (n : ℕ) (f : ℕ → Bool) → ((k : ℕ) → k < n → f k ≡ false) → any n f ≡ false
 unfolding any
@@ -114,8 +116,9 @@ first-is (suc n) f = go (first n f) (first-is n f) (f n) refl
   where
     go : (t : ℕ) → First n f t → (b : Bool) → f n ≡ b → First (suc n) f (cond (ltb t n) t (cond (f n) n (suc n)))
     go t x b e = elim (decLt t n) [
-        yes l ↦ rw (lt-ltb t n l) (omega arith, x .1, λ h. x .2 l)
-      | no l ↦ rw (le-ltb t n (omega (arith, l))) (last b e (λ k h. x .1 k (omega (arith, x .0)))) ]
+      | yes l ↦ rw (lt-ltb t n l) (omega arith, x .1, λ h. x .2 l)
+      | no l ↦ rw (le-ltb t n (omega (arith, l))) (last b e (λ k h. x .1 k (omega (arith, x .0))))
+    ]
       where
         last : (b : Bool) → f n ≡ b → ((k : ℕ) → k < n → f k ≡ false) → First (suc n) f (cond (f n) n (suc n))
         last true e h = rw e (omega arith, h, λ l. e)
@@ -126,8 +129,9 @@ first-at n k f h e b = go (first n f) (first-is n f)
   where
     go : (t : ℕ) → First n f t → k ≡ t
     go t x = elim (decLt t k) [
-        yes l ↦ clash (f t) (x .2 (omega arith)) (b t l)
-      | no l ↦ elim (decLt k t) [ yes m ↦ clash (f k) e (x .1 k m) | no m ↦ omega arith ] ]
+      | yes l ↦ clash (f t) (x .2 (omega arith)) (b t l)
+      | no l ↦ elim (decLt k t) [ yes m ↦ clash (f k) e (x .1 k m) | no m ↦ omega arith ]
+    ]
 
 pub first-none : (n : ℕ) (f : ℕ → Bool) → ((j : ℕ) → j < n → f j ≡ false) → n ≡ first n f
 first-none n f b = go (first n f) (first-is n f)

@@ -29,8 +29,8 @@ delay-le g C k h false = C k h
 pub start-le : (g : Graph) → Lawful g → (s : Partial) (y : ℕ) → ((u : ℕ) → u < g .tasks → s .start u ≤ y) → (t m : ℕ) → startOn g s t m ≤ y + 2000
 start-le g L s y h t m =
     let a = top-le (g .count) (λ k. cond (eqb (g .to k) t) (s .start (g .from k) + g .work (g .from k) + delay g k (s .machine (g .from k)) m) 0) (y + 2000)
-        (λ k hk. cond-le (eqb (g .to k) t) _ (y + 2000) (λ q. let f = L .ends k hk .0 in
-          omega (arith, h (g .from k) f, L .works (g .from k) f .1, delay-le g (L .costs) k hk (eqb (s .machine (g .from k)) m)))) in
+    (λ k hk. cond-le (eqb (g .to k) t) _ (y + 2000) (λ q. let f = L .ends k hk .0 in
+    omega (arith, h (g .from k) f, L .works (g .from k) f .1, delay-le g (L .costs) k hk (eqb (s .machine (g .from k)) m)))) in
     let b = finish-le g s m (y + 2000) (λ u hu q e. omega (arith, h u hu, L .works u hu .1)) in
     omega arith
 
@@ -43,8 +43,8 @@ module _ (g : Graph) (L : Lawful g) (s : Partial) (E : Early g s) (t m : ℕ) (F
   next =
       let M : ℕ = missing (s .placed) (g .tasks) in
       let a = top-le (g .count) (λ k. cond (eqb (g .to k) t) (s .start (g .from k) + g .work (g .from k) + delay g k (s .machine (g .from k)) m) 0) (2000 * g .tasks - 2000 * M)
-          (λ k hk. cond-le (eqb (g .to k) t) _ (2000 * g .tasks - 2000 * M) (λ q. let f = L .ends k hk .0 in
-            omega (arith, E (g .from k) f (F .2 k hk (eqb-true _ _ q)), L .works (g .from k) f .1, delay-le g (L .costs) k hk (eqb (s .machine (g .from k)) m)))) in
+      (λ k hk. cond-le (eqb (g .to k) t) _ (2000 * g .tasks - 2000 * M) (λ q. let f = L .ends k hk .0 in
+      omega (arith, E (g .from k) f (F .2 k hk (eqb-true _ _ q)), L .works (g .from k) f .1, delay-le g (L .costs) k hk (eqb (s .machine (g .from k)) m)))) in
       let b = finish-le g s m (2000 * g .tasks - 2000 * M) (λ u hu q e. omega (arith, E u hu q, L .works u hu .1)) in
       omega (arith, missing-le (s .placed) (g .tasks))
 
@@ -54,8 +54,9 @@ module _ (g : Graph) (L : Lawful g) (s : Partial) (E : Early g s) (t m : ℕ) (F
       let v : ℕ = startOn g s t m in
       let d = missing-put (s .placed) t (g .tasks) (F .0) (F .1) in
       elim (ℕ-discrete u t) [
-        yes e ↦ rw (put-same (s .start) t v u e) (omega (arith, next))
-      | no ne ↦ rw (put-other (s .start) t v u ne) (omega (arith, E u hu (sym (put-other (s .placed) t true u ne) ∙ q))) ]
+        | yes e ↦ rw (put-same (s .start) t v u e) (omega (arith, next))
+        | no ne ↦ rw (put-other (s .start) t v u ne) (omega (arith, E u hu (sym (put-other (s .placed) t true u ne) ∙ q)))
+      ]
 
 early : (g : Graph) → Lawful g → {s : Partial} → Reachable g s → Early g s
 early g L (none {s} e) = λ t h q. clash (s .placed t) q (e t h)

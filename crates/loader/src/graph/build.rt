@@ -17,17 +17,34 @@ impl TaskGraph {
             machines: 1,
             count: 0,
             works: [1; 32],
-            transfers: [Transfer { from: 0, to: 0, cost: 0 }; 128],
+            transfers: [Transfer {
+                from: 0,
+                to: 0,
+                cost: 0,
+            }; 128],
             levels: [1; 32],
         }
     }
 
     // The graph of lawful parts, with its bottom levels.
-    pub(crate) fn build(tasks: usize, machines: usize, count: usize, works: [u16; 32], transfers: [Transfer; 128]) -> TaskGraph
+    pub(crate) fn build(
+        tasks: usize,
+        machines: usize,
+        count: usize,
+        works: [u16; 32],
+        transfers: [Transfer; 128],
+    ) -> TaskGraph
         requires { ⌜ Lawful (graphOf tasks machines (take tasks works) count (take count transfers)) ⌝ }
         ensures { λ r. ⌜ description r ≡ record { tasks = tasks; machines = machines; works = take tasks works; transfers = take count transfers } ⌝ }
     {
         let levels = bottom_levels(&works[0..tasks], &transfers[0..count]);
-        TaskGraph { tasks, machines, count, works, transfers, levels }
+        TaskGraph {
+            tasks,
+            machines,
+            count,
+            works,
+            transfers,
+            levels,
+        }
     }
 }

@@ -26,8 +26,9 @@ loop-t-again c p ws s h =
     let lt = c .loop-t-test .taken in
     let d = diagonal g n (c .closed-table .result) (c .loop-t .t) (omega arith) (c .closed-table .ensures p ws) in
     elim (ℕ-discrete s (c .loop-t .t)) [
-      yes q ↦ ap (λ (x : ℕ). reach g n x x) q ∙ (sym d ∙ c .if-table-t .left)
-    | no q ↦ c .loop-t .inv p ws s (omega arith) ]
+      | yes q ↦ ap (λ (x : ℕ). reach g n x x) q ∙ (sym d ∙ c .if-table-t .left)
+      | no q ↦ c .loop-t .inv p ws s (omega arith)
+    ]
 
 pub returns : need.returns
 returns c p ws =

@@ -12,8 +12,11 @@ raised-low-requires c κs =
     let ws = c .args .works .now in
     let ts = c .args .transfers .now in
     let g = graphOf (length ws) 0 ws (length ts) ts in
-    record { sizes = c .pre .sizes; inside = λ k h. c .pre .ends k h .1;
-      small = λ t h. omega (arith, c .loop-round .inv 0 t h, longest-small g (c .pre .ends) (c .pre .small) (c .loop-round .-round) t h, c .loop-round-test .taken, c .pre .sizes) }
+    record {
+      sizes = c .pre .sizes;
+      inside = λ k h. c .pre .ends k h .1;
+      small = λ t h. omega (arith, c .loop-round .inv 0 t h, longest-small g (c .pre .ends) (c .pre .small) (c .loop-round .-round) t h, c .loop-round-test .taken, c .pre .sizes);
+    }
 
 pub loop-round-again : need.loop-round-again
 loop-round-again c p t h =

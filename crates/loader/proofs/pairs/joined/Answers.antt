@@ -13,7 +13,7 @@ unfolding leads
 returns-then-transfers-i-2 c =
     let ts = c .args .transfers .now in
     sym (any-on (length ts) (c .loop-i .i) (λ k. eqb (getD ts k blank .from) (c .args .from) && eqb (getD ts k blank .to) (c .args .to)) (c .loop-i-test .taken)
-      (and-from _ _ (eq-eqb _ _ (c .if-transfers-i .taken)) (eq-eqb _ _ (c .if-transfers-i-2 .taken))))
+    (and-from _ _ (eq-eqb _ _ (c .if-transfers-i .taken)) (eq-eqb _ _ (c .if-transfers-i-2 .taken))))
 
 pub returns : need.returns
 unfolding leads

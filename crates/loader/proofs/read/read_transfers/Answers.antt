@@ -11,7 +11,7 @@ use Rattle.loader.specs.declared.transfer.Transfer.{Transfer}
 use Rattle.loader.specs.declared.next.Next.{Next}
 use Rattle.loader.specs.declared.next.Next.the-variants.{End, More}
 use Rattle.std.proofs.shelf.Results.{err-from-errBy}
-use Rattle.loader.specs.Records.{placeOf}
+use Rattle.loader.specs.Layout.{placeOf}
 use Rattle.loader.specs.Parse.{nextAt}
 use Rattle.loader.proofs.Reading.{transfers-more, transfers-end, transfers-stop, next-inside}
 use Rattle.loader.proofs.read.read_transfers.Needs as need
@@ -39,8 +39,9 @@ loop-list-again c =
     let bs = c .args .bytes .now in
     let e : nextAt bs (c .args .tasks) (take (v .count) (v .list)) (placeOf (c .args .tasks) (v .count)) ≡ Ok (More (c .in-More .t)) = q ∙ (sym (c .in-Continue-read-next .ensures tt) ∙ ap (λ (x : Next). Ok x) (c .in-More .is)) in
     let i = next-inside bs (c .args .tasks) (take (v .count) (v .list)) (placeOf (c .args .tasks) (v .count)) (c .in-More .t) e in
-    let l = length-take-le (v .count) (v .list) (omega arith) in
-    ( transfers-more bs (c .args .tasks) (v .count) (v .list) (omega arith) (v .inv .0) (c .in-More .t) (omega arith) e
-    , omega arith
-    , simp length-set (v .inv .2)
-    , omega arith)
+    let l = length-take-le (v .count) (v .list) (omega arith) in (
+      transfers-more bs (c .args .tasks) (v .count) (v .list) (omega arith) (v .inv .0) (c .in-More .t) (omega arith) e,
+      omega arith,
+      simp length-set (v .inv .2),
+      omega arith,
+    )

@@ -1,7 +1,7 @@
 use Prim.Native.Nat.{_+_, _-_, _*_, _≤_}
 use mathlib.Core.Path.{_≡_}
 use lib.ListN.{length, take}
-use Rattle.loader.specs.Records.{placeOf}
+use Rattle.loader.specs.Layout.{placeOf}
 use Rattle.loader.specs.Parse.{after, reading}
 use Rattle.loader.proofs.read.read_transfers.Given as given
 

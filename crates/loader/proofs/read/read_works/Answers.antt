@@ -12,7 +12,8 @@ returns-in-Break-works c =
 
 pub loop-i-again : need.loop-i-again
 loop-i-again c =
-    let e = sym (c .in-Continue-works .ensures tt) in
-    ( works-more (c .args .bytes .now) (c .loop-i .works) (c .loop-i .i) (c .loop-i .inv .0) _ (omega arith) e
-    , omega (arith, work-inside (c .args .bytes .now) _ _ e)
-    , simp length-set (c .loop-i .inv .2))
+    let e = sym (c .in-Continue-works .ensures tt) in (
+      works-more (c .args .bytes .now) (c .loop-i .works) (c .loop-i .i) (c .loop-i .inv .0) _ (omega arith) e,
+      omega (arith, work-inside (c .args .bytes .now) _ _ e),
+      simp length-set (c .loop-i .inv .2),
+    )

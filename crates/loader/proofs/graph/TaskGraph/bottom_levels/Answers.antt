@@ -17,4 +17,5 @@ returns c =
       is = e;
       len = search needs;
       each = λ t h. ap (λ (l : List ℕ). getD l t 0) e ∙ levels-are g t h;
-      law = λ t h. subst (λ (l : List ℕ). BottomLevel (theGraph g) t (getD l t 0)) (sym e) (levels-bottom g t h) }
+      law = λ t h. subst (λ (l : List ℕ). BottomLevel (theGraph g) t (getD l t 0)) (sym e) (levels-bottom g t h);
+    }

@@ -15,12 +15,25 @@ only P p (suc t) h = absurd (omega arith)
 
 pub ghost-result : need.ghost-result
 unfolding level
-ghost-result c =
-    ( omega arith
-    , (only _ (omega arith)
-    , ((λ k h. absurd (omega arith))
-    , ((λ k h. absurd (omega arith))
-    , ((λ k h e. absurd (omega arith))
-    , ((λ i j s. omega (arith, s .1))
-    , ((λ t x. no-chain _ refl x)
-    , (only _ refl, tt))))))))
+ghost-result c = (
+  omega arith,
+  (
+    only _ (omega arith),
+    (
+      (λ k h. absurd (omega arith)),
+      (
+        (λ k h. absurd (omega arith)),
+        (
+          (λ k h e. absurd (omega arith)),
+          (
+            (λ i j s. omega (arith, s .1)),
+            (
+              (λ t x. no-chain _ refl x),
+              (only _ refl, tt),
+            ),
+          ),
+        ),
+      ),
+    ),
+  ),
+)
