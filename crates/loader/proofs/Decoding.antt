@@ -1,14 +1,11 @@
 use mathlib.Core.Path.{_≡_, refl, ap, subst, _∙_}
 use mathlib.Core.List.{List}
-use Prim.Native.Nat.{ℕ, _+_, _*_, _≤_, _<_}
+use Prim.Native.Nat.{ℕ, _+_}
 use native.Mathlib.Omega.{arith}
-use lib.ListN.{length, getD}
+use lib.ListN.{length}
 use Rattle.std.proofs.shelf.Lists.{take-all}
-use Rattle.std.specs.declared.result.Result.the-variants.{Ok, Err}
-use Rattle.loader.specs.declared.transfer.Transfer.{Transfer}
-use Rattle.loader.specs.View.{blank}
+use Rattle.std.specs.declared.result.Result.the-variants.{Ok}
 use Rattle.loader.specs.Description.{Description, described}
-use Rattle.loader.specs.Chaining.{andThen}
 use Rattle.loader.specs.Layout.{placeOf}
 use Rattle.loader.specs.Parse.{headerAt, readWorks, readTransfers, endAt, decode}
 use Rattle.loader.specs.Encoding.{Encodes, LawfulButForCycles}
