@@ -1,14 +1,11 @@
 use mathlib.Core.Path.{_≡_, refl, ap, subst, _∙_}
 use mathlib.Core.List.{List}
-use Prim.Native.Nat.{ℕ, _+_, _*_, _≤_, _<_}
+use Prim.Native.Nat.{ℕ, _+_}
 use native.Mathlib.Omega.{arith}
-use lib.ListN.{length, getD}
+use lib.ListN.{length}
 use Rattle.std.proofs.shelf.Lists.{take-all}
-use Rattle.std.specs.declared.result.Result.the-variants.{Ok, Err}
-use Rattle.loader.specs.declared.transfer.Transfer.{Transfer}
-use Rattle.loader.specs.View.{blank}
+use Rattle.std.specs.declared.result.Result.the-variants.{Ok}
 use Rattle.loader.specs.Description.{Description, described}
-use Rattle.loader.specs.Chaining.{andThen}
 use Rattle.loader.specs.Layout.{placeOf}
 use Rattle.loader.specs.Parse.{headerAt, readWorks, readTransfers, endAt, decode}
 use Rattle.loader.specs.Encoding.{Encodes, LawfulButForCycles}
@@ -32,7 +29,7 @@ decode-reads bs d s l =
     andThen-at (headerAt bs) _ (n, d .machines) (Ok d) (header-reads bs n (d .machines) (omega arith) (f .0) (f .1) (f .2) (f .3) (y .0, y .1, y .2, y .3))
     (andThen-at (readWorks bs n) _ (d .works) (Ok d) w
     (andThen-at (readTransfers bs n) _ ts (Ok d) t
-    (andThen-at (endAt bs i) _ i (Ok d) (tail-reads bs i (omega arith)) refl)))
+    (andThen-at (endAt bs i) _ tt (Ok d) (tail-reads bs i (omega arith)) refl)))
 
 -- what is decoded stands in the file
 pub decode-told : (bs : List ℕ) (d : Description) → decode bs ≡ Ok d → Encodes bs d × LawfulButForCycles (described d)
@@ -48,7 +45,7 @@ decode-told bs d e =
     let h = header-range bs n (p .0 .1) (p .1) in
     let w = works-told bs n (q .0) (q .1) in
     let t = transfers-told bs n ts (r .1) in
-    let x = tail-told bs i (v .0) (v .1) in
+    let x = tail-told bs i (v .1) in
     let c = t .1 .1 in
     subst (λ (m : Description). Encodes bs m × LawfulButForCycles (described m)) is (
       record {

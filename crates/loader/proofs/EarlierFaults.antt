@@ -1,5 +1,5 @@
 use mathlib.Core.Path.{_≡_}
-use mathlib.Core.List.{List, [], _∷_, _++_}
+use mathlib.Core.List.{List}
 use mathlib.Core.Bool.{Bool, true, false, cond, not, _&&_}
 use Prim.Native.Nat.{ℕ, zero, suc, _+_, _*_}
 use native.Mathlib.Omega.{arith}
@@ -99,7 +99,7 @@ finish-plain (reading ts) p = λ z. omega (arith, z)
 finish-plain (ended ts) p = tt
 finish-plain (refused e) p = p
 
-tail-plain : (b : Bool) (i : ℕ) → Plain (cond b (Ok i) (Err (Records (Tail i))))
+tail-plain : (b : Bool) (i : ℕ) → Plain (cond b (Ok (tt {0})) (Err (Records (Tail i))))
 tail-plain true i = tt
 tail-plain false i = λ z. omega (arith, z)
 

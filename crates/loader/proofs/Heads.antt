@@ -1,18 +1,13 @@
-use mathlib.Core.Path.{_≡_, refl, sym, ap, _∙_}
-use mathlib.Core.List.{List, [], _∷_}
-use mathlib.Core.Bool.{Bool, true, false, cond, _&&_}
-use Prim.Native.Nat.{ℕ, _+_, _-_, _*_, _≤_, _<_}
-use native.Mathlib.Nat.{add-zero}
+use mathlib.Core.Path.{_≡_}
+use mathlib.Core.List.{List}
+use mathlib.Core.Bool.{true, false}
+use Prim.Native.Nat.{ℕ, _+_, _-_, _≤_, _<_}
 use native.Mathlib.Omega.{arith}
 use lib.ListN.{length, getD, take, drop, length-drop}
 use lib.Seq.{getD-drop}
-use lib.Dec.{leb}
 use Rattle.std.proofs.shelf.Lists.{take-rest}
-use Rattle.std.proofs.shelf.Tests.{and-from, and-left, and-right, le-leb, lt-leb, cond-true, cond-false}
-use Rattle.std.specs.declared.result.Result.{Result}
-use Rattle.std.specs.declared.result.Result.the-variants.{Ok, Err}
-use Rattle.loader.specs.declared.bytes.Head.{Head}
-use Rattle.loader.specs.Bytes.{word, wordAt, whole, headAt}
+use Rattle.std.proofs.shelf.Tests.{and-from, and-right, le-leb, lt-leb}
+use Rattle.loader.specs.Bytes.{word, wordAt, whole}
 
 -- what lies from byte i on, as a slice pattern has it
 abbrev pub tail : List ℕ → ℕ → List ℕ

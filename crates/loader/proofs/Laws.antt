@@ -1,8 +1,8 @@
 use mathlib.Core.Path.{_≡_, sym, _∙_, ap, subst}
 use Prim.Native.Nat.{ℕ, _<_, _≤_}
-use lib.ListN.{getD, length, take}
+use lib.ListN.{getD, length}
 use lib.Seq.{getD-take, length-take-le}
-use Rattle.model.specs.Graph.{Graph, Lawful, level, BottomLevel}
+use Rattle.model.specs.Graph.{Lawful, level, BottomLevel}
 use Rattle.model.proofs.Starts.{lawful-dag}
 use Rattle.model.proofs.Levels.{level-bottom}
 use Rattle.loader.specs.declared.graph.TaskGraph.{TaskGraph}

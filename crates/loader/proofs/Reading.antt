@@ -15,7 +15,7 @@ use Rattle.loader.specs.declared.next.Next.{Next}
 use Rattle.loader.specs.declared.next.Next.the-variants.{End, More}
 use Rattle.loader.specs.Chaining.{andThen}
 use Rattle.loader.specs.Layout.{placeOf}
-use Rattle.loader.specs.Parse.{workAt, readWorks, nextAt, Progress, reading, ended, refused, taken, step, after, finish, readTransfers}
+use Rattle.loader.specs.Parse.{workAt, readWorks, nextAt, reading, ended, refused, taken, step, after, finish, readTransfers}
 
 -- ---- the works
 

@@ -5,7 +5,7 @@ use Prim.Native.Nat.{ℕ, _+_, _≤_, _<_}
 use native.Mathlib.Omega.{arith}
 use lib.ListN.{length}
 use Rattle.std.proofs.shelf.Ways.{tells}
-use Rattle.std.specs.declared.result.Result.the-variants.{Ok, Err}
+use Rattle.std.specs.declared.result.Result.the-variants.{Ok}
 use Rattle.loader.specs.declared.transfer.Transfer.{Transfer}
 use Rattle.loader.specs.declared.next.Next.the-variants.{End, More}
 use Rattle.loader.specs.View.{leads}
@@ -31,7 +31,7 @@ transfer-reads bs n ts i t l m r h e = grind (arith, tells)
 pub end-reads : (bs : List ℕ) (n : ℕ) (ts : List Transfer) (i : ℕ) → i + 4 ≤ length bs → RecordAt bs i 4 0 → nextAt bs n ts i ≡ Ok End
 end-reads bs n ts i l m = grind (arith, tells)
 
-pub tail-reads : (bs : List ℕ) (i : ℕ) → length bs ≤ i → endAt bs i ≡ Ok i
+pub tail-reads : (bs : List ℕ) (i : ℕ) → length bs ≤ i → endAt bs i ≡ Ok tt
 tail-reads bs i h = grind (arith, tells)
 
 -- ---- what is read is in the record
@@ -60,5 +60,5 @@ transfer-new bs n ts i t e = grind (arith, tells)
 pub end-told : (bs : List ℕ) (n : ℕ) (ts : List Transfer) (i : ℕ) → nextAt bs n ts i ≡ Ok End → RecordAt bs i 4 0
 end-told bs n ts i e = (grind (arith, tells), grind (arith, tells))
 
-pub tail-told : (bs : List ℕ) (i j : ℕ) → endAt bs i ≡ Ok j → length bs ≤ i
-tail-told bs i j e = grind (arith, tells)
+pub tail-told : (bs : List ℕ) (i : ℕ) → endAt bs i ≡ Ok tt → length bs ≤ i
+tail-told bs i e = grind (arith, tells)

@@ -8,7 +8,7 @@ use lib.ListN.{length, getD, take}
 use Rattle.std.proofs.shelf.Tests.{cases-lt}
 use Rattle.std.proofs.shelf.Lists.{getD-append-left, getD-push, length-push, take-more}
 use Rattle.std.specs.declared.result.Result.{Result}
-use Rattle.std.specs.declared.result.Result.the-variants.{Ok, Err}
+use Rattle.std.specs.declared.result.Result.the-variants.{Ok}
 use Rattle.loader.specs.declared.faults.GraphFault.{GraphFault}
 use Rattle.loader.specs.Chaining.{andThen}
 use Rattle.loader.specs.Parse.{workAt, readWorks}

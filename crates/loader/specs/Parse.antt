@@ -79,8 +79,8 @@ abbrev pub readTransfers : List ℕ → ℕ → Result (List Transfer) GraphFaul
 readTransfers bs n = finish (after bs n 129)
 
 -- nothing follows the last record
-abbrev pub endAt : List ℕ → ℕ → Result ℕ GraphFault
-endAt bs i = cond (leb (length bs) i) (Ok i) (Err (Records (Tail i)))
+abbrev pub endAt : List ℕ → ℕ → Result (Unit {0}) GraphFault
+endAt bs i = cond (leb (length bs) i) (Ok tt) (Err (Records (Tail i)))
 
 -- what the records tell, each by itself and after those before it
 abbrev pub decode : List ℕ → Result Description GraphFault

@@ -21,7 +21,7 @@ use crate::read::read_transfers;
 use crate::read::read_works;
 
 // Refuses a cycle; the place is the record of the lowest task on one.
-fn refuse_cycle(tasks: usize, transfers: &TransferList) -> Result<usize, GraphFault>
+fn refuse_cycle(tasks: usize, transfers: &TransferList) -> Result<(), GraphFault>
     requires { ⌜ tasks ≤ 32 ⌝ ∗ ⌜ now transfers .count ≤ 128 ⌝ }
     ensures { λ r. ⌜ ((d : Description) → d .tasks ≡ tasks → d .transfers ≡ take (now (transfers .entry) .count) (now (transfers .entry) .list) → Cases r (λ _. cycleTest d ≡ Ok d) (λ e. cycleTest d ≡ Err e)) ⌝ }
 {
@@ -29,7 +29,7 @@ fn refuse_cycle(tasks: usize, transfers: &TransferList) -> Result<usize, GraphFa
     if t < tasks {
         return Err(GraphFault::Cycle(8 + 6 * t));
     }
-    Ok(tasks)
+    Ok(())
 }
 
 // The graph that the file describes.
@@ -39,8 +39,8 @@ fn read(bytes: &[u8]) -> Result<TaskGraph, GraphFault>
     let (tasks, machines) = read_header(bytes)?;
     let works = read_works(bytes, tasks)?;
     let transfers = read_transfers(bytes, tasks)?;
-    let _ = read_end(bytes, 8 + 6 * tasks + 10 * transfers.count + 4)?;
-    let _ = refuse_cycle(tasks, &transfers)?;
+    read_end(bytes, 8 + 6 * tasks + 10 * transfers.count + 4)?;
+    refuse_cycle(tasks, &transfers)?;
     Ok(TaskGraph::build(tasks, machines, transfers.count, works, transfers.list))
 }
 

@@ -1,5 +1,5 @@
 ghost use mathlib.Core.Path.{_≡_};
-ghost use Prim.Native.Nat.{ℕ, _+_, _*_, _<_, _≤_};
+ghost use Prim.Native.Nat.{_+_, _*_, _<_, _≤_};
 ghost use lib.ListN.{length, take};
 ghost use Rattle.std.specs.Results.{Cases};
 ghost use Rattle.std.specs.declared.result.Result.the-variants.{Ok, Err};
@@ -120,11 +120,11 @@ pub(crate) fn read_transfers(bytes: &[u8], tasks: usize) -> Result<TransferList,
 }
 
 // Refuses bytes that follow the last record.
-pub(crate) fn read_end(bytes: &[u8], at: usize) -> Result<usize, GraphFault>
+pub(crate) fn read_end(bytes: &[u8], at: usize) -> Result<(), GraphFault>
     ensures { λ r. ⌜ r ≡ endAt (now (bytes .entry)) at ⌝ }
 {
     if bytes.len() > at {
         return Err(GraphFault::Records(RecordsFault::Tail(at)));
     }
-    Ok(at)
+    Ok(())
 }

@@ -1,5 +1,5 @@
 ghost use mathlib.Core.Path.{_≡_};
-ghost use Prim.Native.Nat.{ℕ, _<_, _≤_};
+ghost use Prim.Native.Nat.{ℕ, _<_};
 ghost use lib.ListN.{getD, length};
 ghost use Rattle.model.specs.Graph.{level, BottomLevel, Lawful};
 ghost use Rattle.loader.specs.Meaning.{theGraph, worksOf, transfersOf, levelsOf};

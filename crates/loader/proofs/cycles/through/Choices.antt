@@ -1,7 +1,7 @@
 use mathlib.Core.Path.{_≡_}
 use mathlib.Core.Bool.{false, _||_, _&&_}
 use Prim.Native.Nat.{ℕ, _<_, _/_, _%_, _*_, _+_}
-use lib.ListN.{take, getD, length}
+use lib.ListN.{getD, length}
 use Rattle.loader.proofs.cycles.through.Given as given
 
 abbrev pub Inv-loop-i : given.InvT-loop-i

@@ -1,6 +1,6 @@
 use native.Mathlib.Omega.{arith}
 use mathlib.Core.Path.{_≡_, _∙_, ap}
-use Prim.Native.Nat.{ℕ, _<_, _≤_}
+use Prim.Native.Nat.{ℕ}
 use lib.ListN.{getD, length}
 use Rattle.model.specs.Graph.{longest, level}
 use Rattle.model.proofs.Levels.{longest-small, longest-more}

@@ -1,4 +1,4 @@
-use mathlib.Core.Path.{_≡_, refl, sym, ap, _∙_}
+use mathlib.Core.Path.{refl, sym, ap, _∙_}
 use native.Mathlib.Omega.{arith}
 use Rattle.std.specs.declared.result.Result.the-variants.{Ok, Err}
 use Rattle.std.proofs.shelf.Results.{err-from-errBy}
@@ -17,17 +17,17 @@ pub returns-in-Break-refuse-cycle : need.returns-in-Break-refuse-cycle
 returns-in-Break-refuse-cycle c =
     let p = err-from-errBy (c .from-residual-in-Break-refuse-cycle .result) (c .from-residual-in-Break-refuse-cycle .ensures .1) in
     let m = c .in-Continue-transfers .ensures tt in
-    rw (p .1, p .2) (whole-parsed (c .args .bytes .now) (c .in-Continue-works .works) (c .in-Continue-transfers .transfers .list) (c .in-Continue-tasks .tasks) (c .in-Continue-tasks .machines) (c .in-Continue-transfers .transfers .count) _
+    rw (p .1, p .2) (whole-parsed (c .args .bytes .now) (c .in-Continue-works .works) (c .in-Continue-transfers .transfers .list) (c .in-Continue-tasks .tasks) (c .in-Continue-tasks .machines) (c .in-Continue-transfers .transfers .count)
     (sym (c .in-Continue-tasks .ensures tt)) (c .in-Continue-works .ensures tt) (m .2) (omega (arith, m .0, m .1)) (sym (c .in-Continue-read-end .ensures tt)) (Err _) (c .in-Break-refuse-cycle .ensures tt _ refl refl))
 
 pub build-requires : need.build-requires
 build-requires c κs =
     let m = c .in-Continue-transfers .ensures tt in
-    whole-lawful (c .args .bytes .now) (c .in-Continue-works .works) (c .in-Continue-transfers .transfers .list) (c .in-Continue-tasks .tasks) (c .in-Continue-tasks .machines) (c .in-Continue-transfers .transfers .count) _
+    whole-lawful (c .args .bytes .now) (c .in-Continue-works .works) (c .in-Continue-transfers .transfers .list) (c .in-Continue-tasks .tasks) (c .in-Continue-tasks .machines) (c .in-Continue-transfers .transfers .count)
     (sym (c .in-Continue-tasks .ensures tt)) (c .in-Continue-works .ensures tt) (m .2) (omega (arith, m .0, m .1)) (sym (c .in-Continue-read-end .ensures tt)) (c .in-Continue-refuse-cycle .ensures tt _ refl refl)
 
 pub returns : need.returns
 returns c =
     let m = c .in-Continue-transfers .ensures tt in
-    whole-parsed (c .args .bytes .now) (c .in-Continue-works .works) (c .in-Continue-transfers .transfers .list) (c .in-Continue-tasks .tasks) (c .in-Continue-tasks .machines) (c .in-Continue-transfers .transfers .count) _
+    whole-parsed (c .args .bytes .now) (c .in-Continue-works .works) (c .in-Continue-transfers .transfers .list) (c .in-Continue-tasks .tasks) (c .in-Continue-tasks .machines) (c .in-Continue-transfers .transfers .count)
     (sym (c .in-Continue-tasks .ensures tt)) (c .in-Continue-works .ensures tt) (m .2) (omega (arith, m .0, m .1)) (sym (c .in-Continue-read-end .ensures tt)) (Ok _) (c .in-Continue-refuse-cycle .ensures tt _ refl refl ∙ ap Ok (sym (c .build .ensures)))

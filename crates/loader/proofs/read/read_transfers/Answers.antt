@@ -6,10 +6,10 @@ use borrow.Author.Needs.{needs}
 use borrow.Rule.Slice.PartMut.{midOf}
 use lib.ListN.{take, length-set}
 use lib.Seq.{length-take-le}
-use Rattle.std.specs.declared.result.Result.the-variants.{Ok, Err}
+use Rattle.std.specs.declared.result.Result.the-variants.{Ok}
 use Rattle.loader.specs.declared.transfer.Transfer.{Transfer}
 use Rattle.loader.specs.declared.next.Next.{Next}
-use Rattle.loader.specs.declared.next.Next.the-variants.{End, More}
+use Rattle.loader.specs.declared.next.Next.the-variants.{More}
 use Rattle.std.proofs.shelf.Results.{err-from-errBy}
 use Rattle.loader.specs.Layout.{placeOf}
 use Rattle.loader.specs.Parse.{nextAt}

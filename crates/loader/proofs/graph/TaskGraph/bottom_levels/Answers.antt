@@ -1,10 +1,10 @@
 use mathlib.Core.Path.{_≡_, sym, _∙_, ap, subst}
 use mathlib.Core.List.{List}
-use Prim.Native.Nat.{ℕ, _<_, _-_}
+use Prim.Native.Nat.{ℕ, _-_}
 use borrow.Author.Needs.{needs}
 use borrow.Rule.Slice.PartMut.{midOf}
-use lib.ListN.{getD, length}
-use Rattle.model.specs.Graph.{level, BottomLevel}
+use lib.ListN.{getD}
+use Rattle.model.specs.Graph.{BottomLevel}
 use Rattle.loader.specs.Meaning.{theGraph, levelsOf}
 use Rattle.loader.proofs.Laws.{levels-are, levels-bottom}
 use Rattle.loader.proofs.graph.TaskGraph.bottom_levels.Needs as need
