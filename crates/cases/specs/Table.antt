@@ -8,7 +8,7 @@ use Rattle.model.specs.Schedule.{makespan}
 use Rattle.loader.specs.declared.layer.Layer.the-variants.{Bytes, Graph as GraphLayer, Check}
 use Rattle.loader.specs.declared.transfer.Transfer.{Transfer}
 use Rattle.loader.specs.Description.{Description, described}
-use Rattle.loader.specs.Records.{lifted}
+use Rattle.loader.specs.Chaining.{lifted}
 use Rattle.loader.specs.Parse.{parse}
 use Rattle.loader.specs.Refusals.{refusalOf}
 use Rattle.partial.specs.declared.placement.Placement.{Placement}
@@ -65,20 +65,20 @@ finished = listed (described example) 4
 abbrev pub ListSchedule : Type 0
 ListSchedule =
     ((finished .machine 0 ≡ 0) × (finished .machine 1 ≡ 0) × (finished .machine 2 ≡ 1) × (finished .machine 3 ≡ 0))
-  × ((finished .start 0 ≡ 0) × (finished .start 1 ≡ 2) × (finished .start 2 ≡ 3) × (finished .start 3 ≡ 7))
-  × (makespan (described example) (whole finished) ≡ 9)
+    × ((finished .start 0 ≡ 0) × (finished .start 1 ≡ 2) × (finished .start 2 ≡ 3) × (finished .start 3 ≡ 7))
+    × (makespan (described example) (whole finished) ≡ 9)
 
 abbrev pub Checks : Type 0
 Checks =
     (lifted checkRefusal (checked (described example) (row 0 0 ∷ row 1 3 ∷ row 0 2 ∷ row 1 6 ∷ [])) ≡ Ok 8)
-  × (lifted checkRefusal (checked (described example) (row 0 0 ∷ row 1 3 ∷ row 0 2 ∷ row 1 5 ∷ [])) ≡ Err (record { number = 14; place = 3; layer = Check }))
+    × (lifted checkRefusal (checked (described example) (row 0 0 ∷ row 1 3 ∷ row 0 2 ∷ row 1 5 ∷ [])) ≡ Err (record { number = 14; place = 3; layer = Check }))
 
 abbrev pub Overlaps : Type 0
 Overlaps =
     (lifted checkRefusal (checked pair (row 0 0 ∷ row 0 2 ∷ [])) ≡ Ok 4)
-  × (lifted checkRefusal (checked pair (row 0 0 ∷ row 0 1 ∷ [])) ≡ Err (record { number = 15; place = 0; layer = Check }))
+    × (lifted checkRefusal (checked pair (row 0 0 ∷ row 0 1 ∷ [])) ≡ Err (record { number = 15; place = 0; layer = Check }))
 
 abbrev pub Refused : Type 0
 Refused =
     (lifted refusalOf (parse []) ≡ Err (record { number = 1; place = 0; layer = Bytes }))
-  × (lifted refusalOf (parse thereAndBack) ≡ Err (record { number = 8; place = 8; layer = GraphLayer }))
+    × (lifted refusalOf (parse thereAndBack) ≡ Err (record { number = 8; place = 8; layer = GraphLayer }))

@@ -1,5 +1,3 @@
-pub mod table;
-
 #[cfg(test)]
 mod check_tests;
 #[cfg(test)]
@@ -8,3 +6,4 @@ mod files;
 mod load_tests;
 #[cfg(test)]
 mod partial_tests;
+pub mod table;

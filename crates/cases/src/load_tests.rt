@@ -61,8 +61,12 @@ fn many_transfers(rt: LibcRuntime) -> Result<(), Fail> {
     let heap = rt.alloc();
     check_eq(crowded(heap, 127, [30, 31, 0])?, (0, 32))?;
     check_eq(crowded(heap, 128, [30, 31, 0])?, (5, 1480))?;
-    check_eq(crowded(heap, 128, [30, 32, 0])?.0, 4).note("the range is tested before the number of transfers")?;
-    check_eq(crowded(heap, 128, [0, 1, 0])?.0, 5).note("the number of transfers is tested before the pair")?;
+    check_eq(crowded(heap, 128, [30, 32, 0])?.0, 4).note(
+        "the range is tested before the number of transfers",
+    )?;
+    check_eq(crowded(heap, 128, [0, 1, 0])?.0, 5).note(
+        "the number of transfers is tested before the pair",
+    )?;
     check_eq(crowded(heap, 127, [0, 1, 7])?, (6, 1470))
 }
 

@@ -20,10 +20,14 @@ fn only_free_tasks_are_appended() -> Result<(), Fail> {
     check(empty.append(&graph, 1, 0).is_none()).note("its predecessor is not placed")?;
     check(empty.append(&graph, 4, 0).is_none()).note("no such task")?;
     check(empty.append(&graph, 0, 2).is_none()).note("no such machine")?;
-    let Some(one) = empty.append(&graph, 0, 1) else { return check(false) };
+    let Some(one) = empty.append(&graph, 0, 1) else {
+        return check(false)
+    };
     check_eq(one.placement(0), at(1, 0))?;
     check(one.append(&graph, 0, 0).is_none()).note("it is placed already")?;
-    let Some(two) = one.append(&graph, 2, 0) else { return check(false) };
+    let Some(two) = one.append(&graph, 2, 0) else {
+        return check(false)
+    };
     check_eq(two.placement(2), at(0, 3))?;
     check_eq(two.machine_finish(&graph, 0), 6)?;
     check_eq(two.data_ready(&graph, 1, 1), 2)?;
@@ -37,7 +41,9 @@ fn large_starts_are_kept_or_refused() -> Result<(), Fail> {
     let mut places = [None; 32];
     places[0] = at(0, 4294967293);
     let late = PartialSchedule::of(places);
-    let Some(same) = late.append(&graph, 1, 0) else { return check(false) };
+    let Some(same) = late.append(&graph, 1, 0) else {
+        return check(false)
+    };
     check_eq(same.placement(1), at(0, 4294967295))?;
     check(late.append(&graph, 1, 1).is_none()).note("32 bits do not hold the start")
 }

@@ -39,7 +39,7 @@ reaches g (suc k) t = pick (λ u. reaches g k u) (top-is (g .count) (step g k t)
           subst (ChainWork g t) (let q : g .work t ≡ g .work t + top (g .count) (step g k t) = omega arith in q) stop
     ]
 
--- and none is greater, since a chain without rings feasible a task once
+-- and none is greater: without cycles a chain meets a task once
 above : (g : Graph) → Dag g → (t v : ℕ) → ChainWork g t v → (k : ℕ) (V : ℕ → Bool) → t < g .tasks → missing V (g .tasks) ≤ suc k → ((u : ℕ) → V u ≡ true → Chain g u t) → v ≤ longest g k t
 above g S t v (stop) zero V ht hk K = omega arith
 above g S t v (stop) (suc k) V ht hk K = omega arith

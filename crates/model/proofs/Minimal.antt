@@ -31,7 +31,7 @@ feeder g T t (suc n) = go (feeder g T t n) (T (g .from n)) refl
       | no nq ↦ inr (λ k h q. elim (ℕ-discrete k n) [ yes z ↦ absurd (nq (sym (ap (g .to) z) ∙ q)) | no z ↦ f k (omega arith) q ])
     ]
 
--- without rings, some task of T is fed by none of T
+-- without cycles some task of T is fed by none of T
 pub minimal : (g : Graph) → Dag g → (T V : ℕ → Bool) (k : ℕ) → missing V (g .tasks) ≤ k → (t : ℕ) → t < g .tasks → T t ≡ true → ((v : ℕ) → V v ≡ true → Chain g t v)
     → (u : ℕ) × (u < g .tasks) × (T u ≡ true) × ((k : ℕ) → k < g .count → g .to k ≡ u → T (g .from k) ≡ false)
 minimal g S T V zero hk t ht hT K = elim (unseen (V t) refl) [ ]

@@ -18,6 +18,7 @@ filled (suc n) x (suc m) = filled n x m
 -- no placement at all is the empty partial schedule
 pub empty-is : partialOf (replicate 32 None) ≡ nothing
 empty-is = λ i. record {
-    placed = λ t. placedOf (filled {A = Option Placement} 32 None t i);
-    machine = λ t. machineOf (filled {A = Option Placement} 32 None t i);
-    start = λ t. startOf (filled {A = Option Placement} 32 None t i) }
+  placed = λ t. placedOf (filled {A = Option Placement} 32 None t i);
+  machine = λ t. machineOf (filled {A = Option Placement} 32 None t i);
+  start = λ t. startOf (filled {A = Option Placement} 32 None t i);
+}

@@ -36,9 +36,10 @@ named-start n (Some x) = refl
 
 -- placements renamed one by one are the normal form
 pub renamed-is : (g : Graph) (q out : List (Option Placement)) (n : M.Names) → n ≡ naming (partialOf q) (g .tasks)
-  → ((k : ℕ) → getD out k None ≡ named n (getD q k None)) → partialOf out ≡ normalForm g (partialOf q)
+    → ((k : ℕ) → getD out k None ≡ named n (getD q k None)) → partialOf out ≡ normalForm g (partialOf q)
 unfolding normalForm
 renamed-is g q out n e h = λ i. record {
-    placed = λ t. (ap placedOf (h t) ∙ named-placed n (getD q t None)) i;
-    machine = λ t. (ap machineOf (h t) ∙ named-machine n (getD q t None) ∙ ap (λ m. cond (placedOf (getD q t None)) (m .name (machineOf (getD q t None))) 0) e) i;
-    start = λ t. (ap startOf (h t) ∙ named-start n (getD q t None)) i }
+  placed = λ t. (ap placedOf (h t) ∙ named-placed n (getD q t None)) i;
+  machine = λ t. (ap machineOf (h t) ∙ named-machine n (getD q t None) ∙ ap (λ m. cond (placedOf (getD q t None)) (m .name (machineOf (getD q t None))) 0) e) i;
+  start = λ t. (ap startOf (h t) ∙ named-start n (getD q t None)) i;
+}

@@ -20,8 +20,9 @@ written q t m v h = λ i. record { placed = λ u. at Bool placedOf u i; machine 
   where
     at : (B : Type 0) (f : Option Placement → B) (u : ℕ) → f (getD (set q t (Some (record { machine = m; start = v }))) u None) ≡ put (λ u. f (getD q u None)) t (f (Some (record { machine = m; start = v }))) u
     at B f u = elim (ℕ-discrete u t) [
-        yes z ↦ ap (λ k. f (getD (set q t (Some (record { machine = m; start = v }))) k None)) z ∙ ap f (getD-set-same q t (Some (record { machine = m; start = v })) None h) ∙ sym (put-same (λ u. f (getD q u None)) t (f (Some (record { machine = m; start = v }))) u z)
-      | no nz ↦ ap f (getD-set-other q t u (Some (record { machine = m; start = v })) None nz) ∙ sym (put-other (λ u. f (getD q u None)) t (f (Some (record { machine = m; start = v }))) u nz) ]
+      | yes z ↦ ap (λ k. f (getD (set q t (Some (record { machine = m; start = v }))) k None)) z ∙ ap f (getD-set-same q t (Some (record { machine = m; start = v })) None h) ∙ sym (put-same (λ u. f (getD q u None)) t (f (Some (record { machine = m; start = v }))) u z)
+      | no nz ↦ ap f (getD-set-other q t u (Some (record { machine = m; start = v })) None nz) ∙ sym (put-other (λ u. f (getD q u None)) t (f (Some (record { machine = m; start = v }))) u nz)
+    ]
 
 pub appended : (g : Graph) (q : List (Option Placement)) (t m v : ℕ) → t < length q → v ≡ startOn g (partialOf q) t m → partialOf (set q t (Some (record { machine = m; start = v }))) ≡ append g (partialOf q) t m
 unfolding append

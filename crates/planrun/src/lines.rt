@@ -42,7 +42,10 @@ pub impl fmt::Display for TaskLine as TaskLineDisplay {
         let machine = self.machine;
         let start = self.start;
         let finish = self.finish;
-        write!(f, "task {task} machine {machine} start {start} finish {finish}")
+        write!(
+            f,
+            "task {task} machine {machine} start {start} finish {finish}"
+        )
     }
 }
 

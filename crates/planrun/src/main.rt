@@ -25,9 +25,14 @@ fn print_tasks(rt: &impl Print, planned: &Planned) -> Result<(), AnyError> {
 }
 
 fn print_plan(rt: &impl Print, planned: &Planned) -> Result<(), AnyError> {
-    rt.println(HeadLine { tasks: planned.graph.tasks(), machines: planned.graph.machines() })?;
+    rt.println(HeadLine {
+        tasks: planned.graph.tasks(),
+        machines: planned.graph.machines(),
+    })?;
     print_tasks(rt, planned)?;
-    rt.println(LengthLine { length: planned.schedule.makespan })?;
+    rt.println(LengthLine {
+        length: planned.schedule.makespan,
+    })?;
     Ok(())
 }
 

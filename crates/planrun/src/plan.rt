@@ -36,5 +36,10 @@ pub fn task_line(planned: &Planned, t: usize) -> TaskLine
 {
     let row = planned.schedule.rows[t];
     let finish = row.start as u64 + planned.graph.works()[t] as u64;
-    TaskLine { task: t, machine: row.machine, start: row.start, finish }
+    TaskLine {
+        task: t,
+        machine: row.machine,
+        start: row.start,
+        finish,
+    }
 }

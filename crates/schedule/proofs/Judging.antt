@@ -24,10 +24,12 @@ use Rattle.schedule.specs.Judged.{Passes, Lowest, Nowhere, OutOfRange, TooEarl
 module _ (g : Graph) (p : Schedule) where
   wrong-is : (t : ℕ) → wrong g p t ≡ true → OutOfRange g p t
   wrong-is t e = elim (decLt (p .machine t) (g .machines)) [
-      no h ↦ inl (omega arith)
+    | no h ↦ inl (omega arith)
     | yes h ↦ elim (decLe (p .start t) 64000) [
-        yes k ↦ clash (wrong g p t) e (ap not (and-from _ _ (lt-ltb _ _ h) (le-leb _ _ k)))
-      | no k ↦ inr (omega arith) ] ]
+      | yes k ↦ clash (wrong g p t) e (ap not (and-from _ _ (lt-ltb _ _ h) (le-leb _ _ k)))
+      | no k ↦ inr (omega arith)
+    ]
+  ]
 
   is-wrong : (t : ℕ) → OutOfRange g p t → wrong g p t ≡ true
   is-wrong t (inl h) = not-from-false _ (and-left _ _ (le-ltb _ _ h))
@@ -91,15 +93,20 @@ module _ (g : Graph) (p : Schedule) where
   -- and what breaks none is feasible
   pub obeys-all : Ends g → Nowhere (g .tasks) (Breaks g p Range) → Nowhere (g .tasks) (Breaks g p Early) → Nowhere (g .tasks) (Breaks g p Overlap) → Feasible g p
   obeys-all E A B C = record {
-      on = λ t h. elim (decLt (p .machine t) (g .machines)) [ yes l ↦ l | no l ↦ absurd (A t h (inl (omega arith))) ];
-      starts = λ t h. elim (decLe (p .start t) 64000) [ yes l ↦ l | no l ↦ absurd (A t h (inr (omega arith))) ];
-      after = λ k h. elim (decLe (p .start (g .from k) + g .work (g .from k) + delay g k (p .machine (g .from k)) (p .machine (g .to k))) (p .start (g .to k))) [
-          yes l ↦ l | no l ↦ absurd (B (g .to k) (E k h .1) (k, h, refl, omega arith)) ];
-      apart = λ x y hx hy ne q. elim (decLe (p .start x + g .work x) (p .start y)) [
-          yes l ↦ inl l
-        | no l ↦ elim (decLe (p .start y + g .work y) (p .start x)) [
-            yes k ↦ inr k
-          | no k ↦ absurd (C y hy (x, hx, ne, q, omega arith, omega arith)) ] ] }
+    on = λ t h. elim (decLt (p .machine t) (g .machines)) [ yes l ↦ l | no l ↦ absurd (A t h (inl (omega arith))) ];
+    starts = λ t h. elim (decLe (p .start t) 64000) [ yes l ↦ l | no l ↦ absurd (A t h (inr (omega arith))) ];
+    after = λ k h. elim (decLe (p .start (g .from k) + g .work (g .from k) + delay g k (p .machine (g .from k)) (p .machine (g .to k))) (p .start (g .to k))) [
+      | yes l ↦ l
+      | no l ↦ absurd (B (g .to k) (E k h .1) (k, h, refl, omega arith))
+    ];
+    apart = λ x y hx hy ne q. elim (decLe (p .start x + g .work x) (p .start y)) [
+      | yes l ↦ inl l
+      | no l ↦ elim (decLe (p .start y + g .work y) (p .start x)) [
+        | yes k ↦ inr k
+        | no k ↦ absurd (C y hy (x, hx, ne, q, omega arith, omega arith))
+      ]
+    ];
+  }
 
 module _ (g : Graph) (rows : List Placement) (e : length rows ≡ g .tasks) where
   counted : checked g rows ≡ verdict g (lowest g (scheduleOf rows) Range) (lowest g (scheduleOf rows) Early) (lowest g (scheduleOf rows) Overlap) (makespan g (scheduleOf rows))

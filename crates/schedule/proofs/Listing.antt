@@ -36,7 +36,8 @@ module _ (g : Graph) (L : Lawful g) where
       record {
         reachable = child-reachable g (lawful-dag L) s t m (F .reachable) (N .free) (E .low);
         rest = omega (arith, F .rest, missing-put (s .placed) t (g .tasks) (N .free .0) (N .free .1));
-        rule = more t m (F .rule) N E }
+        rule = more t m (F .rule) N E;
+      }
 
   pub facts : (k : ℕ) → k ≤ g .tasks → Facts g k (listed g k)
   unfolding listed

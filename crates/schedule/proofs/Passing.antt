@@ -38,16 +38,17 @@ Alike g p q = (t : ℕ) → t < g .tasks → (p .machine t ≡ q .machine t) × 
 
 pub alike-feasible : (g : Graph) → Ends g → (p q : Schedule) → Alike g p q → Feasible g p → Feasible g q
 alike-feasible g E p q A F = record {
-    on = λ t h. omega (arith, A t h .0, F .on t h);
-    starts = λ t h. omega (arith, A t h .1, F .starts t h);
-    after = λ k h.
+  on = λ t h. omega (arith, A t h .0, F .on t h);
+  starts = λ t h. omega (arith, A t h .1, F .starts t h);
+  after = λ k h.
       let f = A (g .from k) (E k h .0) in
       let t = A (g .to k) (E k h .1) in
       rw (← (f .0), ← (f .1), ← (t .0), ← (t .1)) (F .after k h);
-    apart = λ a b ha hb ne e.
+  apart = λ a b ha hb ne e.
       let x = A a ha in
       let y = A b hb in
-      rw (← (x .1), ← (y .1)) (F .apart a b ha hb ne (x .0 ∙ e ∙ sym (y .0))) }
+      rw (← (x .1), ← (y .1)) (F .apart a b ha hb ne (x .0 ∙ e ∙ sym (y .0)));
+}
 
 pub alike-makespan : (g : Graph) (p q : Schedule) → Alike g p q → makespan g p ≡ makespan g q
 alike-makespan g p q A = top-same (g .tasks) (λ t. p .start t + g .work t) (λ t. q .start t + g .work t) (λ t h. ap (λ (x : ℕ). x + g .work t) (A t h .1))

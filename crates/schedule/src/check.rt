@@ -32,7 +32,11 @@ fn is_hasty(g: &TaskGraph, rows: &[Placement], t: usize, k: usize) -> bool
     let from = rows[e.from as usize];
     let to = rows[e.to as usize];
     let end = from.start as u64 + g.works()[e.from as usize] as u64;
-    let arrival = if from.machine == to.machine { end } else { end + e.cost as u64 };
+    let arrival = if from.machine == to.machine {
+        end
+    } else {
+        end + e.cost as u64
+    };
     (to.start as u64) < arrival
 }
 
@@ -57,7 +61,10 @@ fn do_collide(g: &TaskGraph, rows: &[Placement], t: usize, u: usize) -> bool
     let a = rows[t];
     let b = rows[u];
     let works = g.works();
-    u != t && b.machine == a.machine && (a.start as u64) < b.start as u64 + works[u] as u64 && (b.start as u64) < a.start as u64 + works[t] as u64
+    u != t
+        && b.machine == a.machine
+        && (a.start as u64) < b.start as u64 + works[u] as u64
+        && (b.start as u64) < a.start as u64 + works[t] as u64
 }
 
 // Whether task t runs while another runs on its machine.

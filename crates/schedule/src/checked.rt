@@ -28,9 +28,15 @@ pub fn rows(q: &PartialSchedule) -> [Placement; 32]
     ensures len { λ r. ⌜ length r ≡ 32 ⌝ }
     ensures is { λ r. ⌜ scheduleOf r ≡ whole (thePartial (now (q .entry))) ⌝ }
 {
-    let mut rows = [Placement { machine: 0, start: 0 }; 32];
+    let mut rows = [Placement {
+        machine: 0,
+        start: 0,
+    }; 32];
     for t in 0..32 {
-        rows[t] = Placement { machine: q.machine(t), start: q.start(t) };
+        rows[t] = Placement {
+            machine: q.machine(t),
+            start: q.start(t),
+        };
     }
     rows
 }

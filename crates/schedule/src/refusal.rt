@@ -9,9 +9,21 @@ pub fn check_refusal(e: CheckFault) -> Refusal
     ensures { λ r. ⌜ r ≡ checkRefusal e ⌝ }
 {
     match e {
-        CheckFault::Rows(place) => Refusal { number: 13, place, layer: Layer::Check },
-        CheckFault::Early(place) => Refusal { number: 14, place, layer: Layer::Check },
-        CheckFault::Overlap(place) => Refusal { number: 15, place, layer: Layer::Check },
+        CheckFault::Rows(place) => Refusal {
+            number: 13,
+            place,
+            layer: Layer::Check,
+        },
+        CheckFault::Early(place) => Refusal {
+            number: 14,
+            place,
+            layer: Layer::Check,
+        },
+        CheckFault::Overlap(place) => Refusal {
+            number: 15,
+            place,
+            layer: Layer::Check,
+        },
     }
 }
 

@@ -34,7 +34,10 @@ impl PartialSchedule {
             return None;
         }
         let mut places = self.places;
-        places[t] = Some(Placement { machine: m, start: start as u32 });
+        places[t] = Some(Placement {
+            machine: m,
+            start: start as u32,
+        });
         Some(PartialSchedule { places })
     }
 

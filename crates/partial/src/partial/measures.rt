@@ -24,7 +24,11 @@ impl PartialSchedule {
         ensures is { λ r. ⌜ r ≡ cond (thePartial (now (self .entry)) .placed u && eqb (thePartial (now (self .entry)) .machine u) m) (thePartial (now (self .entry)) .start u + theGraph (now (g .entry)) .work u) 0 ⌝ }
         ensures small { λ r. ⌜ r ≤ 2 ^ 33 ⌝ }
     {
-        if self.lies_on(m, u) { self.start(u) as u64 + g.works()[u] as u64 } else { 0 }
+        if self.lies_on(m, u) {
+            self.start(u) as u64 + g.works()[u] as u64
+        } else {
+            0
+        }
     }
 
     // The greatest finish of the tasks placed on machine m, or 0.
@@ -51,7 +55,11 @@ impl PartialSchedule {
         }
         let u = e.from as usize;
         let end = self.start(u) as u64 + g.works()[u] as u64;
-        if self.machine(u) == m { end } else { end + e.cost as u64 }
+        if self.machine(u) == m {
+            end
+        } else {
+            end + e.cost as u64
+        }
     }
 
     // The data ready time of task t on machine m.

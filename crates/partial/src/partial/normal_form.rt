@@ -29,7 +29,10 @@ fn renamed(n: &Names, x: Option<Placement>) -> Option<Placement>
     ensures { λ r. ⌜ r ≡ named (theNames (now (n .entry))) x ⌝ }
 {
     match x {
-        Some(x) => Some(Placement { machine: n.name[x.machine as usize], start: x.start }),
+        Some(x) => Some(Placement {
+            machine: n.name[x.machine as usize],
+            start: x.start,
+        }),
         None => None,
     }
 }
@@ -39,7 +42,11 @@ impl PartialSchedule {
     fn names(&self, g: &TaskGraph) -> Names
         ensures { λ r. ⌜ theNames r ≡ naming (thePartial (now (self .entry))) (theGraph (now (g .entry)) .tasks) ⌝ }
     {
-        let mut n = Names { seen: [false; 256], name: [0; 256], next: 0 };
+        let mut n = Names {
+            seen: [false; 256],
+            name: [0; 256],
+            next: 0,
+        };
         for t in 0..g.tasks() {
             note(&mut n, self.machine(t), self.is_placed(t));
         }

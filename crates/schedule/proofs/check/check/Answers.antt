@@ -17,7 +17,8 @@ returns-then-row-n c =
     let L = lowest-is G (scheduleOf rows) Range _ (c .lowest-row .ensures) (omega arith) in
     record {
       is = says-rows G rows e _ (c .lowest-row .ensures) (omega arith);
-      exactly = ((λ P. no-breach G (scheduleOf rows) (P .1) Range _ (L .0) (L .1)), inr (e, L)) }
+      exactly = ((λ P. no-breach G (scheduleOf rows) (P .1) Range _ (L .0) (L .1)), inr (e, L));
+    }
 
 pub returns-then-early-n : need.returns-then-early-n
 returns-then-early-n c =
@@ -28,7 +29,8 @@ returns-then-early-n c =
     let L = lowest-is G (scheduleOf rows) Early _ (c .lowest-early .ensures) (omega arith) in
     record {
       is = says-early G rows e _ _ a (omega arith) (c .lowest-early .ensures) (omega arith);
-      exactly = ((λ P. no-breach G (scheduleOf rows) (P .1) Early _ (L .0) (L .1)), (e, nowhere G (scheduleOf rows) Range _ a (omega arith), L)) }
+      exactly = ((λ P. no-breach G (scheduleOf rows) (P .1) Early _ (L .0) (L .1)), (e, nowhere G (scheduleOf rows) Range _ a (omega arith), L));
+    }
 
 pub returns-then-overlap-n : need.returns-then-overlap-n
 returns-then-overlap-n c =
@@ -40,7 +42,8 @@ returns-then-overlap-n c =
     let L = lowest-is G (scheduleOf rows) Overlap _ (c .lowest-overlap .ensures) (omega arith) in
     record {
       is = says-overlap G rows e _ _ _ a (omega arith) b (omega arith) (c .lowest-overlap .ensures) (omega arith);
-      exactly = ((λ P. no-breach G (scheduleOf rows) (P .1) Overlap _ (L .0) (L .1)), (e, nowhere G (scheduleOf rows) Range _ a (omega arith), nowhere G (scheduleOf rows) Early _ b (omega arith), L)) }
+      exactly = ((λ P. no-breach G (scheduleOf rows) (P .1) Overlap _ (L .0) (L .1)), (e, nowhere G (scheduleOf rows) Range _ a (omega arith), nowhere G (scheduleOf rows) Early _ b (omega arith), L));
+    }
 
 pub returns : need.returns
 returns c =
@@ -54,4 +57,5 @@ returns c =
     let p = scheduleOf rows in
     record {
       is = says-ok G rows e _ _ _ _ a (omega arith) b (omega arith) d (omega arith) v;
-      exactly = ((e, obeys-all G p (theLawful (c .args .g .now) .ends) (nowhere G p Range _ a (omega arith)) (nowhere G p Early _ b (omega arith)) (nowhere G p Overlap _ d (omega arith))), v) }
+      exactly = ((e, obeys-all G p (theLawful (c .args .g .now) .ends) (nowhere G p Range _ a (omega arith)) (nowhere G p Early _ b (omega arith)) (nowhere G p Overlap _ d (omega arith))), v);
+    }

@@ -30,7 +30,9 @@ returns c =
     let n : c .tasks .result - 0 ≡ G .tasks = omega arith in
     let J = c .in-Continue-makespan .ensures tt .exactly in
     record {
-      is =
-        ( c .rows-rows .ensures .is ∙ ap (λ (s : Partial). whole s) (c .list-schedule .ensures .is)
-        , J .1 ∙ ap (λ (k : ℕ). makespan G (scheduleOf (take k rows))) n ∙ sym (alike-makespan G (scheduleOf rows) (scheduleOf (take (G .tasks) rows)) (taken-alike G rows)));
-      passes = subst (λ (k : ℕ). Passes G (take k rows)) n (J .0) }
+      is = (
+        c .rows-rows .ensures .is ∙ ap (λ (s : Partial). whole s) (c .list-schedule .ensures .is),
+        J .1 ∙ ap (λ (k : ℕ). makespan G (scheduleOf (take k rows))) n ∙ sym (alike-makespan G (scheduleOf rows) (scheduleOf (take (G .tasks) rows)) (taken-alike G rows)),
+      );
+      passes = subst (λ (k : ℕ). Passes G (take k rows)) n (J .0);
+    }

@@ -19,7 +19,8 @@ returns-then-not-is-open c =
     let e : c .is-open .result ≡ false = search needs in
     record {
       is = λ A. clash (c .is-open .result) (c .is-open .ensures ∙ and-from _ _ (free-test G s (c .args .t) (A .0)) (lt-ltb (c .args .m) (G .machines) (A .1))) e;
-      keeps-rules = λ o. tt }
+      keeps-rules = λ o. tt;
+    }
 
 pub returns-then-start-gt4294967295 : need.returns-then-start-gt4294967295
 returns-then-start-gt4294967295 c = record { is = λ A. omega (arith, A .2, c .start-on-start .ensures .is); keeps-rules = λ o. tt }
@@ -37,4 +38,5 @@ returns c =
     let e = appended G (c .args .self .now .places) t m (c .start-on-start .result) (omega (arith, F .0)) (c .start-on-start .ensures .is) in
     record {
       is = ((F, low, omega (arith, c .start-on-start .ensures .is)), e);
-      keeps-rules = λ o. subst (Obeys G) (sym e) (append-obeys G s t m o F low) }
+      keeps-rules = λ o. subst (Obeys G) (sym e) (append-obeys G s t m o F low);
+    }

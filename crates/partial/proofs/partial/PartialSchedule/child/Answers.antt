@@ -18,4 +18,5 @@ returns-in-Some c =
     let e : thePartial (c .normal-form .result) ≡ normalForm G (append G s (c .args .t) (c .args .m)) = c .normal-form .ensures .is ∙ ap (normalForm G) (A .1) in
     record {
       is = (A .0, e);
-      reachable = λ R. subst (Reachable G) (sym e) (child-reachable G (lawful-dag (theLawful g)) s (c .args .t) (c .args .m) R (A .0 .0) (A .0 .1)) }
+      reachable = λ R. subst (Reachable G) (sym e) (child-reachable G (lawful-dag (theLawful g)) s (c .args .t) (c .args .m) R (A .0 .0) (A .0 .1));
+    }
