@@ -1,7 +1,7 @@
 ghost use Rattle.cases.specs.Table.{ExampleRead, Levels, ListSchedule, Checks, Overlaps, Refused};
 
 // The worked cases, as equalities that the checker computes.
-pub fn worked_cases() -> bool
+pub fn worked_cases()
     ensures read { λ _. ⌜ ExampleRead ⌝ }
     ensures levels { λ _. ⌜ Levels ⌝ }
     ensures list { λ _. ⌜ ListSchedule ⌝ }
@@ -9,5 +9,4 @@ pub fn worked_cases() -> bool
     ensures overlaps { λ _. ⌜ Overlaps ⌝ }
     ensures refused { λ _. ⌜ Refused ⌝ }
 {
-    true
 }

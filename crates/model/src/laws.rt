@@ -1,8 +1,7 @@
 ghost use Rattle.model.specs.Laws.{CycleTestDecides};
 
 // The test for a cycle decides it.
-pub fn cycle_test_decides() -> bool
+pub fn cycle_test_decides()
     ensures { λ _. ⌜ CycleTestDecides ⌝ }
 {
-    true
 }

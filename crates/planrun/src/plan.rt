@@ -30,7 +30,7 @@ pub fn plan_file(bytes: &[u8]) -> Result<Planned, Refusal>
 }
 
 // The line of task t.
-pub fn task_line(planned: &Planned, t: usize) -> TaskLine
+pub(crate) fn task_line(planned: &Planned, t: usize) -> TaskLine
     requires { ⌜ t < theGraph (now planned .graph) .tasks ⌝ }
     ensures { λ r. ⌜ r ≡ lineOf (now (planned .entry)) t ⌝ }
 {
