@@ -3,6 +3,8 @@ use crate::files::RunFile;
 use crate::files::told;
 use loader::graph::TaskGraph;
 use loader::load::load;
+use loader::refusal::display::RefusalDisplay;
+use loader::refusal::from_fault::refusal;
 use std::alloc::Global;
 use std::test::*;
 
@@ -119,10 +121,11 @@ fn record_start(k: usize) -> usize {
 
 #[test]
 fn truncated_example() -> Result<(), Fail> {
-    for k in 0..76 {
-        check_eq(told(&EXAMPLE[0..k]), (1, record_start(k)))?;
+    let file: &[u8] = EXAMPLE;
+    for k in 0..file.len() {
+        check_eq(told(&file[0..k]), (1, record_start(k)))?;
     }
-    check_eq(told(&EXAMPLE), (0, 4))
+    check_eq(told(EXAMPLE), (0, 4))
 }
 
 #[test]
@@ -139,9 +142,21 @@ fn cycles(rt: LibcRuntime) -> Result<(), Fail> {
 }
 
 #[test]
+fn refusals_as_text(rt: LibcRuntime) -> Result<(), Fail> {
+    let mut graph = TaskGraph::new();
+    match load(&mut graph, &[]) {
+        Ok(()) => check(false),
+        Err(e) => check_eq(
+            refusal(e).to_string(rt.alloc())?.as_str(),
+            "refused 1 at 0 in bytes",
+        ),
+    }
+}
+
+#[test]
 fn refused_files_leave_the_graph(rt: LibcRuntime) -> Result<(), Fail> {
     let mut graph = TaskGraph::new();
-    let _ = load(&mut graph, &EXAMPLE);
+    let _ = load(&mut graph, EXAMPLE);
     let mut file = RunFile::new(rt.alloc(), 3, 1)?;
     file.tasks(2, 1)?;
     check(load(&mut graph, file.bytes()).is_err())?;

@@ -8,5 +8,4 @@ pub fn worked_cases()
     ensures checks { λ _. ⌜ Checks ⌝ }
     ensures overlaps { λ _. ⌜ Overlaps ⌝ }
     ensures refused { λ _. ⌜ Refused ⌝ }
-{
-}
+{}
