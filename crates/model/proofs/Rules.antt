@@ -9,7 +9,7 @@ use Rattle.std.proofs.shelf.Tests.{eq-eqb, ne-eqb, eqb-true, lt-ltb, ltb-true, 
 use Rattle.model.specs.Range.{top, every, put}
 use Rattle.model.specs.Graph.{Graph}
 use Rattle.model.specs.Schedule.{Schedule, Feasible, delay}
-use Rattle.model.specs.Partial.{Partial, Complete, Free, ready?, free?, Obeys, machineFinish, dataReady, startOn, append, whole}
+use Rattle.model.specs.Partial.{Partial, Complete, Free, fed, ready?, free?, Obeys, finishOn, machineFinish, arrival, dataReady, startOn, append, whole}
 use Rattle.model.specs.NormalForm.{Renamed, Normal, normalForm}
 use Rattle.model.specs.Reachable.{Reachable, Empty}
 use Rattle.model.specs.Reachable.Reachable.{none, more}
@@ -20,7 +20,7 @@ use Rattle.model.proofs.Naming.{form-renamed, form-normal}
 -- the test for a free task decides it
 ready-test : (g : Graph) (s : Partial) (t : ℕ) → Free g s t → ready? g s t ≡ true
 ready-test g s t F =
-    and-from _ _ (not-from-false _ (F .1)) (every-from (g .count) (λ k. not (eqb (g .to k) t) || s .placed (g .from k)) (λ k hk. elim (ℕ-discrete (g .to k) t) [
+    and-from _ _ (not-from-false _ (F .1)) (every-from (g .count) (fed g s t) (λ k hk. elim (ℕ-discrete (g .to k) t) [
       | yes e ↦ rw (eq-eqb (g .to k) t e, F .2 k hk e)
       | no ne ↦ rw (ne-eqb (g .to k) t ne)
     ]))
@@ -32,31 +32,29 @@ pub test-free : (g : Graph) (s : Partial) (t : ℕ) → free? g s t ≡ true →
 test-free g s t e =
     let p = and-parts (ltb t (g .tasks)) _ e in
     let q = and-parts (not (s .placed t)) _ (p .1) in
-    (ltb-true t (g .tasks) (p .0), not-true _ (q .0), λ k hk z. or-other _ _ (every-all (g .count) (λ k. not (eqb (g .to k) t) || s .placed (g .from k)) (q .1) k hk) (not-from-true _ (eq-eqb (g .to k) t z)))
+    (ltb-true t (g .tasks) (p .0), not-true _ (q .0), λ k hk z. or-other _ _ (every-all (g .count) (fed g s t) (q .1) k hk) (not-from-true _ (eq-eqb (g .to k) t z)))
   where
     or-other : (a b : Bool) → (a || b) ≡ true → a ≡ false → b ≡ true
     or-other true b p q = clash true refl q
     or-other false b p q = p
 
 -- one transfer that does not let a task be free is enough
-pub ready-off : (g : Graph) (s : Partial) (t k : ℕ) → k < g .count → (not (eqb (g .to k) t) || s .placed (g .from k)) ≡ false → ready? g s t ≡ false
-ready-off g s t k h e = and-right (not (s .placed t)) _ (every-off (g .count) k (λ k. not (eqb (g .to k) t) || s .placed (g .from k)) h e)
+pub ready-off : (g : Graph) (s : Partial) (t k : ℕ) → k < g .count → fed g s t k ≡ false → ready? g s t ≡ false
+ready-off g s t k h e = and-right (not (s .placed t)) _ (every-off (g .count) k (fed g s t) h e)
 
 pub ready-has : (g : Graph) (s : Partial) (t m k : ℕ) → k < g .count → g .to k ≡ t → s .start (g .from k) + g .work (g .from k) + delay g k (s .machine (g .from k)) m ≤ dataReady g s t m
 ready-has g s t m k hk e =
-    let f : ℕ → ℕ = λ k. cond (eqb (g .to k) t) (s .start (g .from k) + g .work (g .from k) + delay g k (s .machine (g .from k)) m) 0 in
-    let q : f k ≡ s .start (g .from k) + g .work (g .from k) + delay g k (s .machine (g .from k)) m = rw (eq-eqb (g .to k) t e) in
-    omega (arith, le-top (g .count) f k hk)
+    let q : arrival g s t m k ≡ s .start (g .from k) + g .work (g .from k) + delay g k (s .machine (g .from k)) m = rw (eq-eqb (g .to k) t e) in
+    omega (arith, le-top (g .count) (arrival g s t m) k hk)
 
 pub finish-has : (g : Graph) (s : Partial) (m u : ℕ) → u < g .tasks → s .placed u ≡ true → s .machine u ≡ m → s .start u + g .work u ≤ machineFinish g s m
 finish-has g s m u hu hp hm =
-    let f : ℕ → ℕ = λ u. cond (s .placed u && eqb (s .machine u) m) (s .start u + g .work u) 0 in
-    let e : f u ≡ s .start u + g .work u = rw (hp, eq-eqb (s .machine u) m hm) in
-    omega (arith, le-top (g .tasks) f u hu)
+    let e : finishOn g s m u ≡ s .start u + g .work u = rw (hp, eq-eqb (s .machine u) m hm) in
+    omega (arith, le-top (g .tasks) (finishOn g s m) u hu)
 
 pub finish-le : (g : Graph) (s : Partial) (m y : ℕ) → ((u : ℕ) → u < g .tasks → s .placed u ≡ true → s .machine u ≡ m → s .start u + g .work u ≤ y) → machineFinish g s m ≤ y
 finish-le g s m y h =
-    top-le (g .tasks) (λ u. cond (s .placed u && eqb (s .machine u) m) (s .start u + g .work u) 0) y
+    top-le (g .tasks) (finishOn g s m) y
     (λ u hu. cond-le (s .placed u && eqb (s .machine u) m) (s .start u + g .work u) y
     (λ e. h u hu (and-l _ _ e) (eqb-true _ _ (and-r (s .placed u) _ e))))
 

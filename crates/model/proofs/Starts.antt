@@ -9,7 +9,7 @@ use Rattle.std.proofs.shelf.Tests.{eqb-true, not-true, not-false}
 use Rattle.model.specs.Range.{top, put}
 use Rattle.model.specs.Graph.{Graph, Ends, Works, Costs, Lawful}
 use Rattle.model.specs.Schedule.{Schedule, Feasible, delay}
-use Rattle.model.specs.Partial.{Partial, Complete, Unfinished, Free, machineFinish, dataReady, startOn, append, whole}
+use Rattle.model.specs.Partial.{Partial, Complete, Unfinished, Free, arrival, startOn, append, whole}
 use Rattle.model.specs.NormalForm.{Renamed}
 use Rattle.model.specs.Reachable.{Reachable}
 use Rattle.model.specs.Reachable.Reachable.{none, more}
@@ -28,7 +28,7 @@ delay-le g C k h false = C k h
 -- where a task starts if no start is above y
 pub start-le : (g : Graph) → Lawful g → (s : Partial) (y : ℕ) → ((u : ℕ) → u < g .tasks → s .start u ≤ y) → (t m : ℕ) → startOn g s t m ≤ y + 2000
 start-le g L s y h t m =
-    let a = top-le (g .count) (λ k. cond (eqb (g .to k) t) (s .start (g .from k) + g .work (g .from k) + delay g k (s .machine (g .from k)) m) 0) (y + 2000)
+    let a = top-le (g .count) (arrival g s t m) (y + 2000)
     (λ k hk. cond-le (eqb (g .to k) t) _ (y + 2000) (λ q. let f = L .ends k hk .0 in
     omega (arith, h (g .from k) f, L .works (g .from k) f .1, delay-le g (L .costs) k hk (eqb (s .machine (g .from k)) m)))) in
     let b = finish-le g s m (y + 2000) (λ u hu q e. omega (arith, h u hu, L .works u hu .1)) in
@@ -42,7 +42,7 @@ module _ (g : Graph) (L : Lawful g) (s : Partial) (E : Early g s) (t m : ℕ) (F
   next : startOn g s t m + 2000 * missing (s .placed) (g .tasks) ≤ 2000 * g .tasks
   next =
       let M : ℕ = missing (s .placed) (g .tasks) in
-      let a = top-le (g .count) (λ k. cond (eqb (g .to k) t) (s .start (g .from k) + g .work (g .from k) + delay g k (s .machine (g .from k)) m) 0) (2000 * g .tasks - 2000 * M)
+      let a = top-le (g .count) (arrival g s t m) (2000 * g .tasks - 2000 * M)
       (λ k hk. cond-le (eqb (g .to k) t) _ (2000 * g .tasks - 2000 * M) (λ q. let f = L .ends k hk .0 in
       omega (arith, E (g .from k) f (F .2 k hk (eqb-true _ _ q)), L .works (g .from k) f .1, delay-le g (L .costs) k hk (eqb (s .machine (g .from k)) m)))) in
       let b = finish-le g s m (2000 * g .tasks - 2000 * M) (λ u hu q e. omega (arith, E u hu q, L .works u hu .1)) in

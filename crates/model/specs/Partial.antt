@@ -31,20 +31,32 @@ Unfinished g s = (t : ℕ) × (t < g .tasks) × (s .placed t ≡ false)
 abbrev pub Free : Graph → Partial → ℕ → Type 0
 Free g s t = (t < g .tasks) × (s .placed t ≡ false) × ((k : ℕ) → k < g .count → g .to k ≡ t → s .placed (g .from k) ≡ true)
 
--- the test for it: a task of the graph that is not placed, while every predecessor is
+-- transfer k leads elsewhere than to task t, or from a placed task
+abbrev pub fed : Graph → Partial → ℕ → ℕ → Bool
+fed g s t k = not (eqb (g .to k) t) || s .placed (g .from k)
+
+-- the test for a free task: one of the graph that is not placed, while every predecessor is
 abbrev pub ready? : Graph → Partial → ℕ → Bool
-ready? g s t = not (s .placed t) && every (g .count) (λ k. not (eqb (g .to k) t) || s .placed (g .from k))
+ready? g s t = not (s .placed t) && every (g .count) (fed g s t)
 
 abbrev pub free? : Graph → Partial → ℕ → Bool
 free? g s t = ltb t (g .tasks) && ready? g s t
 
+-- the finish of task u if it is placed on machine m, else 0
+abbrev pub finishOn : Graph → Partial → ℕ → ℕ → ℕ
+finishOn g s m u = cond (s .placed u && eqb (s .machine u) m) (s .start u + g .work u) 0
+
 -- the greatest finish of the tasks placed on a machine, or 0
 abbrev pub machineFinish : Graph → Partial → ℕ → ℕ
-machineFinish g s m = top (g .tasks) (λ u. cond (s .placed u && eqb (s .machine u) m) (s .start u + g .work u) 0)
+machineFinish g s m = top (g .tasks) (finishOn g s m)
+
+-- when the data of transfer k arrives for task t on machine m; 0 where it leads elsewhere
+abbrev pub arrival : Graph → Partial → ℕ → ℕ → ℕ → ℕ
+arrival g s t m k = cond (eqb (g .to k) t) (s .start (g .from k) + g .work (g .from k) + delay g k (s .machine (g .from k)) m) 0
 
 -- the data ready time of task t on machine m: the greatest finish of a predecessor plus cost, cost 0 on the same machine; 0 without predecessors
 abbrev pub dataReady : Graph → Partial → ℕ → ℕ → ℕ
-dataReady g s t m = top (g .count) (λ k. cond (eqb (g .to k) t) (s .start (g .from k) + g .work (g .from k) + delay g k (s .machine (g .from k)) m) 0)
+dataReady g s t m = top (g .count) (arrival g s t m)
 
 -- where a task starts that is appended on a machine
 abbrev pub startOn : Graph → Partial → ℕ → ℕ → ℕ

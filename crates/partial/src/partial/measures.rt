@@ -1,10 +1,9 @@
 ghost use mathlib.Core.Path.{_≡_};
-ghost use mathlib.Core.Bool.{cond, not, _&&_, _||_};
-ghost use Prim.Native.Nat.{ℕ, _<_, _≤_, _+_, _^_, max};
+ghost use mathlib.Core.Bool.{_&&_};
+ghost use Prim.Native.Nat.{ℕ, _<_, _≤_, _^_};
 ghost use lib.Dec.{eqb};
 ghost use Rattle.std.specs.Orderings.{Decides};
-ghost use Rattle.model.specs.Schedule.{delay};
-ghost use Rattle.model.specs.Partial.{machineFinish, dataReady, startOn, Free, ready?, free?};
+ghost use Rattle.model.specs.Partial.{finishOn, machineFinish, arrival, dataReady, startOn, Free, fed, ready?, free?};
 ghost use Rattle.loader.specs.Meaning.{theGraph};
 ghost use Rattle.partial.specs.Meaning.{thePartial};
 use crate::partial::PartialSchedule;
@@ -21,7 +20,7 @@ impl PartialSchedule {
     // The finish of task u if it is placed on machine m, else 0.
     fn finish_on(&self, g: &TaskGraph, m: u8, u: usize) -> u64
         requires { ⌜ u < theGraph (now g) .tasks ⌝ }
-        ensures is { λ r. ⌜ r ≡ cond (thePartial (now (self .entry)) .placed u && eqb (thePartial (now (self .entry)) .machine u) m) (thePartial (now (self .entry)) .start u + theGraph (now (g .entry)) .work u) 0 ⌝ }
+        ensures is { λ r. ⌜ r ≡ finishOn (theGraph (now (g .entry))) (thePartial (now (self .entry))) m u ⌝ }
         ensures small { λ r. ⌜ r ≤ 2 ^ 33 ⌝ }
     {
         if self.lies_on(m, u) {
@@ -46,7 +45,7 @@ impl PartialSchedule {
     // When the data of transfer k is ready for task t on machine m, 0 where it leads elsewhere.
     fn arrival(&self, g: &TaskGraph, t: usize, m: u8, k: usize) -> u64
         requires { ⌜ k < theGraph (now g) .count ⌝ }
-        ensures is { λ r. ⌜ r ≡ cond (eqb (theGraph (now (g .entry)) .to k) t) (thePartial (now (self .entry)) .start (theGraph (now (g .entry)) .from k) + theGraph (now (g .entry)) .work (theGraph (now (g .entry)) .from k) + delay (theGraph (now (g .entry))) k (thePartial (now (self .entry)) .machine (theGraph (now (g .entry)) .from k)) m) 0 ⌝ }
+        ensures is { λ r. ⌜ r ≡ arrival (theGraph (now (g .entry))) (thePartial (now (self .entry))) t m k ⌝ }
         ensures small { λ r. ⌜ r ≤ 2 ^ 33 ⌝ }
     {
         let e = g.transfers()[k];
@@ -85,7 +84,7 @@ impl PartialSchedule {
     // Whether transfer k leads elsewhere than to task t, or from a placed task.
     fn is_fed(&self, g: &TaskGraph, t: usize, k: usize) -> bool
         requires { ⌜ k < theGraph (now g) .count ⌝ }
-        ensures { λ r. ⌜ r ≡ (not (eqb (theGraph (now (g .entry)) .to k) t) || thePartial (now (self .entry)) .placed (theGraph (now (g .entry)) .from k)) ⌝ }
+        ensures { λ r. ⌜ r ≡ fed (theGraph (now (g .entry))) (thePartial (now (self .entry))) t k ⌝ }
     {
         let e = g.transfers()[k];
         e.to as usize != t || self.is_placed(e.from as usize)
