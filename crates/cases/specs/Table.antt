@@ -5,7 +5,7 @@ use Rattle.std.specs.declared.result.Result.the-variants.{Ok, Err}
 use Rattle.model.specs.Graph.{Graph, level}
 use Rattle.model.specs.Partial.{Partial, whole}
 use Rattle.model.specs.Schedule.{makespan}
-use Rattle.loader.specs.declared.layer.Layer.the-variants.{Bytes, Graph as GraphLayer, Check}
+use Rattle.refusal.specs.declared.layer.Layer.the-variants.{Bytes, Graph as GraphLayer, Check}
 use Rattle.loader.specs.declared.transfer.Transfer.{Transfer}
 use Rattle.loader.specs.Description.{Description, described}
 use Rattle.loader.specs.Chaining.{lifted}

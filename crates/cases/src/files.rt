@@ -1,6 +1,6 @@
 use loader::graph::TaskGraph;
 use loader::load::load;
-use loader::refusal::from_fault::refusal;
+use loader::refusal::refusal;
 use std::alloc::AllocError;
 use std::alloc::Global;
 

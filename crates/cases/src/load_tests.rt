@@ -3,8 +3,8 @@ use crate::files::RunFile;
 use crate::files::told;
 use loader::graph::TaskGraph;
 use loader::load::load;
-use loader::refusal::display::RefusalDisplay;
-use loader::refusal::from_fault::refusal;
+use loader::refusal::refusal;
+use refusal::refusal::display::RefusalDisplay;
 use std::alloc::Global;
 use std::test::*;
 

@@ -7,6 +7,4 @@ pub mod Bytes
 pub mod Records
 pub mod Parse
 pub mod Encoding
-pub mod Names
 pub mod Refusals
-pub mod Wording

@@ -7,8 +7,8 @@ use Rattle.loader.specs.Encoding.{Encodes, LawfulButForCycles}
 use Rattle.loader.specs.declared.faults.RecordsFault.the-variants.{Bytes, Kind, Length, Tail}
 use Rattle.loader.specs.declared.faults.GraphFault.{GraphFault}
 use Rattle.loader.specs.declared.faults.GraphFault.the-variants.{Records, Range, TooMany, Twice, Cycle}
-use Rattle.loader.specs.declared.layer.Layer.the-variants as layer
-use Rattle.loader.specs.declared.refusal.Refusal.{Refusal}
+use Rattle.refusal.specs.declared.layer.Layer.the-variants as layer
+use Rattle.refusal.specs.declared.refusal.Refusal.{Refusal}
 
 -- the number, the place and the layer of each fault
 abbrev pub refusalOf : GraphFault → Refusal

@@ -2,7 +2,6 @@ mod bytes;
 mod cycles;
 pub mod faults;
 pub mod graph;
-pub mod layer;
 mod levels;
 pub mod load;
 mod next;

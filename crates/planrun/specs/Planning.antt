@@ -5,7 +5,7 @@ use Rattle.std.specs.declared.result.Result.the-variants.{Ok, Err}
 use Rattle.model.specs.Schedule.{makespan}
 use Rattle.model.specs.Partial.{whole}
 use Rattle.loader.specs.declared.faults.GraphFault.{GraphFault}
-use Rattle.loader.specs.declared.refusal.Refusal.{Refusal}
+use Rattle.refusal.specs.declared.refusal.Refusal.{Refusal}
 use Rattle.loader.specs.Meaning.{theGraph, description}
 use Rattle.loader.specs.Parse.{parse}
 use Rattle.loader.specs.Refusals.{refusalOf}

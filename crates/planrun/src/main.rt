@@ -8,8 +8,8 @@ use crate::lines::TaskLineDisplay;
 use crate::plan::Planned;
 use crate::plan::plan_file;
 use crate::plan::task_line;
-use loader::refusal::Refusal;
-use loader::refusal::display::RefusalDisplay;
+use refusal::refusal::Refusal;
+use refusal::refusal::display::RefusalDisplay;
 use std::error::AnyError;
 use std::io::Read;
 

@@ -1,6 +1,6 @@
 use Prim.Native.Nat.{ℕ}
-use Rattle.loader.specs.declared.layer.Layer.the-variants.{Check}
-use Rattle.loader.specs.declared.refusal.Refusal.{Refusal}
+use Rattle.refusal.specs.declared.layer.Layer.the-variants.{Check}
+use Rattle.refusal.specs.declared.refusal.Refusal.{Refusal}
 use Rattle.schedule.specs.declared.fault.CheckFault.{CheckFault}
 use Rattle.schedule.specs.declared.fault.CheckFault.the-variants.{Rows, Early, Overlap}
 

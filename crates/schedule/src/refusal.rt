@@ -1,8 +1,8 @@
 ghost use mathlib.Core.Path.{_≡_};
 ghost use Rattle.schedule.specs.Refusals.{checkRefusal};
 use crate::fault::CheckFault;
-use loader::layer::Layer;
-use loader::refusal::Refusal;
+use refusal::layer::Layer;
+use refusal::refusal::Refusal;
 
 // The refusal that a fault of the check is told as.
 pub fn check_refusal(e: CheckFault) -> Refusal

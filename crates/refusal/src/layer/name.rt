@@ -1,5 +1,5 @@
 ghost use mathlib.Core.Path.{_≡_};
-ghost use Rattle.loader.specs.Names.{nameOf};
+ghost use Rattle.refusal.specs.Names.{nameOf};
 use crate::layer::Layer;
 
 impl Layer {

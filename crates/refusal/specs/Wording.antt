@@ -2,8 +2,8 @@ use mathlib.Core.List.{List, _++_}
 use Prim.Native.Nat.{ℕ}
 use lib.Chars.{codes}
 use Rattle.std.specs.Written.{decimal}
-use Rattle.loader.specs.declared.refusal.Refusal.{Refusal}
-use Rattle.loader.specs.Names.{nameOf}
+use Rattle.refusal.specs.declared.refusal.Refusal.{Refusal}
+use Rattle.refusal.specs.Names.{nameOf}
 
 -- a refusal as text, for instance `refused 4 at 8 in graph`
 abbrev pub wording : Refusal → List ℕ

@@ -1,8 +1,8 @@
 use mathlib.Core.List.{List}
 use Prim.Native.Nat.{ℕ}
 use lib.Chars.{codes}
-use Rattle.loader.specs.declared.layer.Layer.{Layer}
-use Rattle.loader.specs.declared.layer.Layer.the-variants.{Bytes, Records, Graph, Search, Check, Page}
+use Rattle.refusal.specs.declared.layer.Layer.{Layer}
+use Rattle.refusal.specs.declared.layer.Layer.the-variants.{Bytes, Records, Graph, Search, Check, Page}
 
 -- the name of each layer, as bytes
 abbrev pub nameOf : Layer → List ℕ

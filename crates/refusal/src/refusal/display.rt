@@ -1,5 +1,5 @@
 ghost use Rattle.std.specs.declared.option.Option.the-variants.{Some};
-ghost use Rattle.loader.specs.Wording.{wording};
+ghost use Rattle.refusal.specs.Wording.{wording};
 use crate::refusal::Refusal;
 use std::fmt;
 

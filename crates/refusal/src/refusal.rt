@@ -1,0 +1,13 @@
+use crate::layer::Layer;
+use crate::layer::LayerDebug;
+use crate::layer::LayerPartialEq;
+
+pub mod display;
+
+// What is told of a refusal: its number, the place, and the layer that refused.
+#[derive(Clone, Copy, PartialEq, Debug)]
+pub struct Refusal {
+    pub number: u8,
+    pub place: usize,
+    pub layer: Layer,
+}
