@@ -11,6 +11,8 @@ use Rattle.loader.specs.Parse.{parse}
 use Rattle.loader.specs.Refusals.{refusalOf}
 use Rattle.schedule.specs.Rows.{scheduleOf}
 use Rattle.schedule.specs.ListSchedule.{listed}
+use Rattle.planrun.specs.declared.lines.HeadLine.{HeadLine}
+use Rattle.planrun.specs.declared.lines.LengthLine.{LengthLine}
 use Rattle.planrun.specs.declared.lines.TaskLine.{TaskLine}
 use Rattle.planrun.specs.declared.plan.Planned.{Planned}
 
@@ -21,6 +23,14 @@ PlanOf bytes p = (parse bytes ≡ Ok (description (p .graph))) × (scheduleOf (p
 -- the file is refused, and this is its refusal
 abbrev pub RefusalOf : List ℕ → Refusal → Type 0
 RefusalOf bytes e = (f : GraphFault) × (parse bytes ≡ Err f) × (e ≡ refusalOf f)
+
+-- what is printed at first
+abbrev pub headOf : Planned → HeadLine
+headOf p = record { tasks = theGraph (p .graph) .tasks; machines = theGraph (p .graph) .machines }
+
+-- what is printed at last
+abbrev pub lengthOf : Planned → LengthLine
+lengthOf p = record { length = p .schedule .makespan }
 
 -- what is printed of task t
 abbrev pub lineOf : Planned → ℕ → TaskLine

@@ -1,14 +1,12 @@
 // Reads a run file from standard input, list-schedules its task graph, and prints the schedule or the refusal.
-use crate::lines::HeadLine;
 use crate::lines::HeadLineDisplay;
-use crate::lines::LengthLine;
 use crate::lines::LengthLineDisplay;
-use crate::lines::TaskLine;
 use crate::lines::TaskLineDisplay;
 use crate::plan::Planned;
+use crate::plan::head_line;
+use crate::plan::length_line;
 use crate::plan::plan_file;
 use crate::plan::task_line;
-use refusal::refusal::Refusal;
 use refusal::refusal::display::RefusalDisplay;
 use std::error::AnyError;
 use std::io::Read;
@@ -25,14 +23,9 @@ fn print_tasks(rt: &impl Print, planned: &Planned) -> Result<(), AnyError> {
 }
 
 fn print_plan(rt: &impl Print, planned: &Planned) -> Result<(), AnyError> {
-    rt.println(HeadLine {
-        tasks: planned.graph.tasks(),
-        machines: planned.graph.machines(),
-    })?;
+    rt.println(head_line(planned))?;
     print_tasks(rt, planned)?;
-    rt.println(LengthLine {
-        length: planned.schedule.makespan,
-    })?;
+    rt.println(length_line(planned))?;
     Ok(())
 }
 

@@ -2,7 +2,9 @@ ghost use mathlib.Core.Path.{_≡_};
 ghost use Prim.Native.Nat.{ℕ, _<_};
 ghost use Rattle.std.specs.Results.{Cases};
 ghost use Rattle.loader.specs.Meaning.{theGraph};
-ghost use Rattle.planrun.specs.Planning.{PlanOf, RefusalOf, lineOf};
+ghost use Rattle.planrun.specs.Planning.{PlanOf, RefusalOf, headOf, lineOf, lengthOf};
+use crate::lines::HeadLine;
+use crate::lines::LengthLine;
 use crate::lines::TaskLine;
 use loader::graph::TaskGraph;
 use loader::load::load;
@@ -27,6 +29,25 @@ pub fn plan_file(bytes: &[u8]) -> Result<Planned, Refusal>
     load(&mut graph, bytes)?;
     let schedule = checked_list_schedule(&graph)?;
     Ok(Planned { graph, schedule })
+}
+
+// The first line.
+pub(crate) fn head_line(planned: &Planned) -> HeadLine
+    ensures { λ r. ⌜ r ≡ headOf (now (planned .entry)) ⌝ }
+{
+    HeadLine {
+        tasks: planned.graph.tasks(),
+        machines: planned.graph.machines(),
+    }
+}
+
+// The last line.
+pub(crate) fn length_line(planned: &Planned) -> LengthLine
+    ensures { λ r. ⌜ r ≡ lengthOf (now (planned .entry)) ⌝ }
+{
+    LengthLine {
+        length: planned.schedule.makespan,
+    }
 }
 
 // The line of task t.
