@@ -9,4 +9,5 @@ pub mod Parse
 pub mod Encoding
 pub mod Names
 pub mod Refusals
+pub mod Refused
 pub mod Wording
