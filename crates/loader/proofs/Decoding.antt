@@ -11,7 +11,7 @@ use Rattle.loader.specs.Parse.{headerAt, readWorks, readTransfers, endAt, deco
 use Rattle.loader.specs.Encoding.{Encodes, LawfulButForCycles}
 use Rattle.loader.proofs.Chaining.{andThen-ok, andThen-at}
 use Rattle.loader.proofs.SingleRecords.{header-reads, header-told, header-range, tail-reads, tail-told}
-use Rattle.loader.proofs.WorksRead.{works-told, works-read}
+use Rattle.loader.proofs.WorksRead.{works-told, works-inside, works-read}
 use Rattle.loader.proofs.TransfersRead.{transfers-told, transfers-read}
 
 -- what stands in the file is decoded
@@ -44,7 +44,7 @@ decode-told bs d e =
     let is : _≡_ {A = Description} (record { tasks = n; machines = p .0 .1; works = q .0; transfers = ts }) d = let k = v .2 in cc in
     let h = header-range bs n (p .0 .1) (p .1) in
     let w = works-told bs n (q .0) (q .1) in
-    let t = transfers-told bs n ts (r .1) in
+    let t = transfers-told bs n (works-inside bs n (q .0) (h .4) (q .1)) ts (r .1) in
     let x = tail-told bs i (v .1) in
     let c = t .1 .1 in
     subst (λ (m : Description). Encodes bs m × LawfulButForCycles (described m)) is (

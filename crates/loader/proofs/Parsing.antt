@@ -1,12 +1,11 @@
 use mathlib.Core.Path.{_≡_, sym, ap, subst, _∙_}
 use mathlib.Core.List.{List}
-use mathlib.Core.Logic.{⊎-elim}
 use mathlib.Core.Bool.{false}
 use Prim.Native.Nat.{ℕ, _+_, _*_, _≤_}
 use native.Mathlib.Omega.{arith}
 use native.Mathlib.Decide.{decLt}
 use lib.Dec.{ltb}
-use Rattle.std.proofs.shelf.Tests.{cond-true, cond-false, lt-ltb, le-ltb, ltb-true, ltb-false}
+use Rattle.std.proofs.shelf.Tests.{cond-true, cond-false, lt-ltb, le-ltb, ltb-false}
 use Rattle.std.specs.declared.result.Result.{Result}
 use Rattle.std.specs.declared.result.Result.the-variants.{Ok, Err}
 use Rattle.model.specs.Graph.{Graph, Lawful}
@@ -17,10 +16,8 @@ use Rattle.loader.specs.declared.faults.GraphFault.the-variants.{Cycle}
 use Rattle.loader.specs.Description.{Description, described}
 use Rattle.loader.specs.Parse.{decode, cycleTest, parse}
 use Rattle.loader.specs.Encoding.{Encodes, LawfulButForCycles}
-use Rattle.loader.specs.Refusals.{refusalOf, RefusedCycle}
-use Rattle.loader.proofs.Chaining.{ok-err, andThen-ok, andThen-err, andThen-at, refuse-ok, refuse-err}
+use Rattle.loader.proofs.Chaining.{ok-err, andThen-ok, andThen-at, refuse-ok}
 use Rattle.loader.proofs.Decoding.{decode-reads, decode-told}
-use Rattle.loader.proofs.EarlierFaults.{decode-early}
 
 pub lawful-but : {g : Graph} → Lawful g → LawfulButForCycles g
 lawful-but l = record { sizes = l .sizes; works = l .works; costs = l .costs; ends = l .ends; apart = l .apart; pairs = l .pairs }
@@ -48,17 +45,6 @@ parse-told bs d e =
 pub parse-refuses : (bs : List ℕ) (e : GraphFault) → parse bs ≡ Err e → (d : Description) → Encodes bs d → Lawful (described d) → ⊥
 parse-refuses bs e h d s l = ok-err d e (sym (parse-reads bs d s l) ∙ h)
 
--- number 8 is told where there is a cycle, of the lowest task on one
-pub cycle-told : (bs : List ℕ) (e : GraphFault) → parse bs ≡ Err e → RefusedCycle bs e
-cycle-told bs e h eight =
-    ⊎-elim (λ x. absurd (decode-early bs e x eight))
-    (λ y. let x = y .0 in
-    let g = described x in
-    let q = refuse-err (ltb (cyclic g) (x .tasks)) (Cycle (8 + 6 * cyclic g)) e x (y .2) in
-    let t = decode-told bs x (y .1) in
-    (x, cyclic g, t .0, t .1, cyclic-lowest g (t .1 .ends) (ltb-true _ _ (q .0)), ap (λ (f : GraphFault). refusalOf f .place) (sym (q .1))))
-    (andThen-err (decode bs) cycleTest e h)
-
 -- there is one lowest task on a cycle
 lowest-once : (g : Graph) (t u : ℕ) → LowestOnCycle g t → LowestOnCycle g u → t ≡ u
 lowest-once g t u a b = elim (decLt t u) [
@@ -66,7 +52,7 @@ lowest-once g t u a b = elim (decLt t u) [
   | no h ↦ elim (decLt u t) [ yes k ↦ absurd (a .2 u k (b .1)) | no k ↦ omega arith ]
 ]
 
--- and wherever there is a cycle, and nothing else is wrong, it is told
+-- wherever there is a cycle, and nothing else is wrong, it is told
 pub cycle-refused : (bs : List ℕ) (d : Description) (t : ℕ) → Encodes bs d → LawfulButForCycles (described d) → LowestOnCycle (described d) t → parse bs ≡ Err (Cycle (8 + 6 * t))
 cycle-refused bs d t s l low =
     let g = described d in

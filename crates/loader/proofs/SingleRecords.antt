@@ -12,17 +12,14 @@ use Rattle.loader.specs.View.{leads}
 use Rattle.loader.specs.Bytes.{wordAt}
 use Rattle.loader.specs.Parse.{headerAt, workAt, nextAt, endAt}
 use Rattle.loader.specs.Encoding.{RecordAt, TaskAt, TransferAt}
-
--- the numbers of a transfer are in range
-abbrev pub InRange : ℕ → Transfer → Type 0
-InRange n t = (t .from < n) × (t .to < n) × (t .cost ≤ 1000) × (t .from ≡ t .to → ⊥)
+use Rattle.loader.specs.Refused.{WorkInRange, InRange}
 
 -- ---- what a record holds is read
 
 pub header-reads : (bs : List ℕ) (n p : ℕ) → 8 ≤ length bs → wordAt bs 0 ≡ 4 → wordAt bs 2 ≡ 1 → wordAt bs 4 ≡ n → wordAt bs 6 ≡ p → (1 ≤ n) × (n ≤ 32) × (1 ≤ p) × (p ≤ 8) → headerAt bs ≡ Ok (n, p)
 header-reads bs n p l a b c d r = grind (arith, tells)
 
-pub work-reads : (bs : List ℕ) (i w : ℕ) → i + 6 ≤ length bs → TaskAt bs i w → (1 ≤ w) × (w ≤ 1000) → workAt bs i ≡ Ok w
+pub work-reads : (bs : List ℕ) (i w : ℕ) → i + 6 ≤ length bs → TaskAt bs i w → WorkInRange w → workAt bs i ≡ Ok w
 work-reads bs i w l t r = grind (arith, tells)
 
 pub transfer-reads : (bs : List ℕ) (n : ℕ) (ts : List Transfer) (i : ℕ) (t : Transfer) → i + 10 ≤ length bs → TransferAt bs i t → InRange n t → length ts < 128 → leads ts (t .from) (t .to) ≡ false → nextAt bs n ts i ≡ Ok (More t)
@@ -45,7 +42,7 @@ header-range bs n p e = (grind (arith, tells), grind (arith, tells), grind (arit
 pub work-told : (bs : List ℕ) (i w : ℕ) → workAt bs i ≡ Ok w → TaskAt bs i w
 work-told bs i w e = (grind (arith, tells), grind (arith, tells), grind (arith, tells))
 
-pub work-range : (bs : List ℕ) (i w : ℕ) → workAt bs i ≡ Ok w → (1 ≤ w) × (w ≤ 1000)
+pub work-range : (bs : List ℕ) (i w : ℕ) → workAt bs i ≡ Ok w → WorkInRange w
 work-range bs i w e = (grind (arith, tells), grind (arith, tells))
 
 pub transfer-told : (bs : List ℕ) (n : ℕ) (ts : List Transfer) (i : ℕ) (t : Transfer) → nextAt bs n ts i ≡ Ok (More t) → TransferAt bs i t

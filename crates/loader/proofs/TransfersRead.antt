@@ -2,7 +2,7 @@ use mathlib.Core.Path.{_≡_, refl, sym, ap, subst, _∙_}
 use mathlib.Core.List.{List, [], _∷_, _++_}
 use mathlib.Core.Logic.{⊎-elim}
 use mathlib.Core.Bool.{false}
-use Prim.Native.Nat.{ℕ, zero, suc, _+_, _≤_, _<_}
+use Prim.Native.Nat.{ℕ, zero, suc, _+_, _*_, _≤_, _<_}
 use native.Mathlib.Omega.{arith}
 use native.Mathlib.Numerals.{add-one}
 use lib.ListN.{length, getD, take}
@@ -19,8 +19,9 @@ use Rattle.loader.specs.View.{blank, leads}
 use Rattle.loader.specs.Layout.{placeOf}
 use Rattle.loader.specs.Parse.{nextAt, Progress, reading, ended, refused, taken, step, after, finish, readTransfers}
 use Rattle.loader.specs.Encoding.{RecordAt, TransferAt}
+use Rattle.loader.specs.Refused.{InRange}
 use Rattle.loader.proofs.PairSearch.{leads-hit, pair-new}
-use Rattle.loader.proofs.SingleRecords.{InRange, transfer-reads, end-reads, transfer-told, transfer-range, transfer-new, end-told}
+use Rattle.loader.proofs.SingleRecords.{transfer-reads, end-reads, transfer-told, transfer-range, transfer-new, end-told}
 use Rattle.loader.proofs.Reading.{next-inside, end-inside, stepped, transfers-end}
 
 -- two places of the list that have one pair
@@ -40,6 +41,9 @@ module _ (bs : List ℕ) (n : ℕ) where
   -- and then the last record follows
   abbrev pub Closed : List Transfer → Type 0
   Closed ts = RecordAt bs (placeOf n (length ts)) 4 0 × (placeOf n (length ts) + 4 ≤ length bs)
+
+  pub shown-none : ShownAll []
+  shown-none = record { few = omega arith; shown = λ k h. absurd (omega (arith, h)); pairs = λ i j s. omega (arith, s .1) }
 
   push : (ts : List Transfer) (t : Transfer) → ShownAll ts → length ts < 128 → Shown (length ts) t → leads ts (t .from) (t .to) ≡ false → ShownAll (ts ++ t ∷ [])
   push ts t f h m new =
@@ -63,35 +67,38 @@ module _ (bs : List ℕ) (n : ℕ) where
             (cases-lt j (length ts));
       }
 
-  -- what is read stands in the records
-  abbrev Told : Progress → Type 0
-  Told (reading ts) = ShownAll ts
-  Told (ended ts) = ShownAll ts × Closed ts
-  Told (refused e) = Unit {0}
+-- what is read stands in the records, and they are whole
+module _ (bs : List ℕ) (n : ℕ) (tasks-inside : 8 + 6 * n ≤ length bs) where
+  abbrev pub Told : ℕ → Progress → Type 0
+  Told k (reading ts) = ShownAll bs n ts × (length ts ≡ k) × (placeOf n (length ts) ≤ length bs)
+  Told k (ended ts) = ShownAll bs n ts × Closed bs n ts
+  Told k (refused e) = Unit {0}
 
-  taken-told : (ts : List Transfer) (r : Result Next GraphFault) → nextAt bs n ts (placeOf n (length ts)) ≡ r → ShownAll ts → Told (taken ts r)
+  taken-told : (ts : List Transfer) (r : Result Next GraphFault) → nextAt bs n ts (placeOf n (length ts)) ≡ r → ShownAll bs n ts → Told (suc (length ts)) (taken ts r)
   taken-told ts (Ok End) e f = (f, (end-told bs n ts (placeOf n (length ts)) e, end-inside bs n ts (placeOf n (length ts)) e))
   taken-told ts (Ok (More t)) e f =
       let i = placeOf n (length ts) in
-      push ts t f (next-inside bs n ts i t e .1) (transfer-told bs n ts i t e, transfer-range bs n ts i t e) (transfer-new bs n ts i t e)
+      let h = next-inside bs n ts i t e in
+      let l = length-push ts t in
+      (push bs n ts t f (h .1) (transfer-told bs n ts i t e, transfer-range bs n ts i t e) (transfer-new bs n ts i t e), omega arith, omega arith)
   taken-told ts (Err x) e f = tt
 
-  step-told : (p : Progress) → Told p → Told (step bs n p)
-  step-told (reading ts) f = taken-told ts (nextAt bs n ts (placeOf n (length ts))) refl f
-  step-told (ended ts) f = f
-  step-told (refused e) f = tt
+  step-told : (k : ℕ) (p : Progress) → Told k p → Told (suc k) (step bs n p)
+  step-told k (reading ts) f = subst (λ (v : ℕ). Told (suc v) (taken ts (nextAt bs n ts (placeOf n (length ts))))) (f .1) (taken-told ts (nextAt bs n ts (placeOf n (length ts))) refl (f .0))
+  step-told k (ended ts) f = f
+  step-told k (refused e) f = tt
 
-  after-told : (k : ℕ) → Told (after bs n k)
-  after-told zero = record { few = omega arith; shown = λ k h. absurd (omega (arith, h)); pairs = λ i j s. omega (arith, s .1) }
-  after-told (suc k) = step-told (after bs n k) (after-told k)
+  pub after-told : (k : ℕ) → Told k (after bs n k)
+  after-told zero = (shown-none bs n, refl, omega arith)
+  after-told (suc k) = step-told k (after bs n k) (after-told k)
 
-  finish-told : (p : Progress) (ts : List Transfer) → Told p → finish p ≡ Ok ts → ShownAll ts × Closed ts
-  finish-told (reading us) ts f e = absurd (let z : _≡_ {A = ℕ} 0 1 = cc in omega arith)
-  finish-told (ended us) ts f e = let s : us ≡ ts = cc in subst (λ (v : List Transfer). ShownAll v × Closed v) s f
-  finish-told (refused x) ts f e = absurd (let z : _≡_ {A = ℕ} 0 1 = cc in omega arith)
+  finish-told : (k : ℕ) (p : Progress) (ts : List Transfer) → Told k p → finish p ≡ Ok ts → ShownAll bs n ts × Closed bs n ts
+  finish-told k (reading us) ts f e = absurd (let z : _≡_ {A = ℕ} 0 1 = cc in omega arith)
+  finish-told k (ended us) ts f e = let s : us ≡ ts = cc in subst (λ (v : List Transfer). ShownAll bs n v × Closed bs n v) s f
+  finish-told k (refused x) ts f e = absurd (let z : _≡_ {A = ℕ} 0 1 = cc in omega arith)
 
-  pub transfers-told : (ts : List Transfer) → readTransfers bs n ≡ Ok ts → ShownAll ts × Closed ts
-  transfers-told ts e = finish-told (after bs n 129) ts (after-told 129) e
+  pub transfers-told : (ts : List Transfer) → readTransfers bs n ≡ Ok ts → ShownAll bs n ts × Closed bs n ts
+  transfers-told ts e = finish-told 129 (after bs n 129) ts (after-told 129) e
 
 -- what stands in the records is read
 module _ (bs : List ℕ) (n : ℕ) (ts : List Transfer) (s : ShownAll bs n ts) (c : Closed bs n ts) where

@@ -13,13 +13,14 @@ use Rattle.loader.specs.declared.faults.GraphFault.{GraphFault}
 use Rattle.loader.specs.Chaining.{andThen}
 use Rattle.loader.specs.Parse.{workAt, readWorks}
 use Rattle.loader.specs.Encoding.{TaskAt}
+use Rattle.loader.specs.Refused.{WorkInRange}
 use Rattle.loader.proofs.Chaining.{andThen-ok}
 use Rattle.loader.proofs.SingleRecords.{work-reads, work-told, work-range}
 use Rattle.loader.proofs.Reading.{work-inside, works-next}
 
 -- the record of task k gives this work
 abbrev pub Shown : List ℕ → ℕ → ℕ → Type 0
-Shown bs k w = TaskAt bs (8 + 6 * k) w × ((1 ≤ w) × (w ≤ 1000))
+Shown bs k w = TaskAt bs (8 + 6 * k) w × WorkInRange w
 
 abbrev pub ShownAll : List ℕ → ℕ → List ℕ → Type 0
 ShownAll bs n ws = (length ws ≡ n) × ((k : ℕ) → k < n → Shown bs k (getD ws k 0))

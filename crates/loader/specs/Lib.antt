@@ -8,3 +8,4 @@ pub mod Records
 pub mod Parse
 pub mod Encoding
 pub mod Refusals
+pub mod Refused

@@ -1,9 +1,3 @@
-use mathlib.Core.Path.{_≡_}
-use mathlib.Core.List.{List}
-use Prim.Native.Nat.{ℕ, _+_, _*_}
-use Rattle.model.specs.Cycles.{LowestOnCycle}
-use Rattle.loader.specs.Description.{Description, described}
-use Rattle.loader.specs.Encoding.{Encodes, LawfulButForCycles}
 use Rattle.loader.specs.declared.faults.RecordsFault.the-variants.{Bytes, Kind, Length, Tail}
 use Rattle.loader.specs.declared.faults.GraphFault.{GraphFault}
 use Rattle.loader.specs.declared.faults.GraphFault.the-variants.{Records, Range, TooMany, Twice, Cycle}
@@ -20,7 +14,3 @@ refusalOf (Range i) = record { number = 4; place = i; layer = layer.Graph }
 refusalOf (TooMany i) = record { number = 5; place = i; layer = layer.Graph }
 refusalOf (Twice i) = record { number = 6; place = i; layer = layer.Graph }
 refusalOf (Cycle i) = record { number = 8; place = i; layer = layer.Graph }
-
--- a fault that is told as number 8 is a cycle in what the file describes, and its place the record of the lowest task on one
-abbrev pub RefusedCycle : List ℕ → GraphFault → Type 0
-RefusedCycle bs e = refusalOf e .number ≡ 8 → (d : Description) × (t : ℕ) × (Encodes bs d) × (LawfulButForCycles (described d)) × (LowestOnCycle (described d) t) × (refusalOf e .place ≡ 8 + 6 * t)

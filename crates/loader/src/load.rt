@@ -10,7 +10,8 @@ ghost use Rattle.loader.specs.Description.{Description, described};
 ghost use Rattle.loader.specs.Meaning.{description, theGraph};
 ghost use Rattle.loader.specs.Parse.{parse, cycleTest};
 ghost use Rattle.loader.specs.Encoding.{Encodes, LawfulButForCycles};
-ghost use Rattle.loader.specs.Refusals.{RefusedCycle};
+ghost use Rattle.loader.specs.Refusals.{refusalOf};
+ghost use Rattle.loader.specs.Refused.{Refused};
 use crate::cycles::lowest_on_cycle;
 use crate::faults::GraphFault;
 use crate::graph::TaskGraph;
@@ -49,7 +50,7 @@ pub fn load(graph: &mut TaskGraph, bytes: &[u8]) -> Result<(), GraphFault>
     ensures is { λ r. ⌜ Cases r (λ _. parse (now (bytes .entry)) ≡ Ok (description (now (graph .exit)))) (λ e. (parse (now (bytes .entry)) ≡ Err e) × (now (graph .exit) ≡ now (graph .entry))) ⌝ }
     ensures means { λ r. ⌜ Cases r (λ _. described (description (now (graph .exit))) ≡ theGraph (now (graph .exit))) (λ _. Unit {0}) ⌝ }
     ensures exactly { λ r. ⌜ Cases r (λ _. Encodes (now (bytes .entry)) (description (now (graph .exit))) × Lawful (described (description (now (graph .exit))))) (λ _. (d : Description) → Encodes (now (bytes .entry)) d → Lawful (described d) → ⊥) ⌝ }
-    ensures cycle { λ r. ⌜ Cases r (λ _. Unit {0}) (λ e. RefusedCycle (now (bytes .entry)) e) ⌝ }
+    ensures refused { λ r. ⌜ Cases r (λ _. Unit {0}) (λ e. Refused (now (bytes .entry)) (refusalOf e)) ⌝ }
     ensures cyclic { λ r. ⌜ ((d : Description) (t : ℕ) → Encodes (now (bytes .entry)) d → LawfulButForCycles (described d) → LowestOnCycle (described d) t → r ≡ Err (Cycle (8 + 6 * t))) ⌝ }
 {
     *graph = read(bytes)?;
