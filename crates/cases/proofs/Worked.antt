@@ -1,4 +1,4 @@
-use mathlib.Core.Path.{_≡_, refl}
+use mathlib.Core.Path.{refl}
 use Rattle.model.specs.Range.{any, first}
 use Rattle.model.specs.Graph.{level}
 use Rattle.model.specs.Partial.{append}

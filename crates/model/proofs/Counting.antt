@@ -1,13 +1,10 @@
-use mathlib.Core.Path.{_≡_, refl, sym, _∙_, ap, subst}
-use mathlib.Core.Bool.{Bool, true, false, cond, not, _&&_, _||_}
-use mathlib.Core.Logic.{_⊎_, inl, inr, _≢_}
-use Prim.Native.Nat.{ℕ, zero, suc, _+_, _*_, _-_, _≤_, _<_, max}
+use mathlib.Core.Path.{_≡_, refl, _∙_, ap}
+use mathlib.Core.Bool.{Bool, true, false, cond, not}
+use Prim.Native.Nat.{ℕ, zero, suc, _+_, _-_, _≤_, _<_}
 use native.Mathlib.Omega.{arith}
-use native.Mathlib.Numerals.{add-one}
-use native.Mathlib.Decide.{ℕ-discrete, decLe, decLt}
-use lib.Dec.{eqb, ltb, leb}
+use native.Mathlib.Decide.{ℕ-discrete}
 use Rattle.model.specs.Range.{put}
-use Rattle.model.proofs.Range.{clash, put-same, put-other}
+use Rattle.model.proofs.Range.{put-same, put-other}
 
 -- how many tasks below n are not placed
 unfoldable pub missing : (ℕ → Bool) → ℕ → ℕ

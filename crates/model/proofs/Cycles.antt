@@ -1,12 +1,10 @@
-use mathlib.Core.Path.{_≡_, refl, sym, _∙_, ap, subst}
-use mathlib.Core.Bool.{Bool, true, false, cond, not, _&&_, _||_}
-use mathlib.Core.Logic.{_⊎_, inl, inr, _≢_, ⊎-elim}
-use Prim.Native.Nat.{ℕ, zero, suc, _+_, _*_, _-_, _≤_, _<_, max}
+use mathlib.Core.Path.{_≡_, refl, sym, subst}
+use mathlib.Core.Bool.{true, _&&_}
+use mathlib.Core.Logic.{_⊎_, inl, inr, ⊎-elim}
+use Prim.Native.Nat.{ℕ, zero, suc, _-_, _≤_, _<_}
 use native.Mathlib.Omega.{arith}
-use native.Mathlib.Decide.{ℕ-discrete, decLe, decLt}
 use lib.Dec.{eqb}
 use Rattle.std.proofs.shelf.Tests.{eq-eqb, eqb-true, or-left, or-right, or-cases, and-from, and-parts, cases-lt}
-use Rattle.model.specs.Range.{any, first}
 use Rattle.model.specs.Graph.{Graph, Ends, Chain, OnCycle, Acyclic}
 use Rattle.model.specs.Graph.Chain.{link, join}
 use Rattle.model.specs.Cycles.{joined, reach, cyclic, LowestOnCycle}

@@ -1,16 +1,16 @@
 use mathlib.Core.Path.{_≡_, refl, sym, _∙_, ap, subst}
-use mathlib.Core.Bool.{Bool, true, false, cond, not, _&&_, _||_}
-use mathlib.Core.Logic.{_⊎_, inl, inr, _≢_, ⊎-elim}
+use mathlib.Core.Bool.{Bool, true, false, cond}
+use mathlib.Core.Logic.{_⊎_, inl, inr}
 use Prim.Native.Nat.{ℕ, zero, suc, _+_, _*_, _-_, _≤_, _<_, max}
 use native.Mathlib.Omega.{arith}
-use native.Mathlib.Decide.{ℕ-discrete, decLe, decLt}
+use native.Mathlib.Decide.{ℕ-discrete, decLe}
 use lib.Dec.{eqb}
 use native.Mathlib.Numerals.{add-one}
-use Rattle.std.proofs.shelf.Tests.{eq-eqb, ne-eqb, eqb-true}
+use Rattle.std.proofs.shelf.Tests.{eq-eqb, ne-eqb}
 use Rattle.model.specs.Range.{top, put}
 use Rattle.model.specs.Graph.{Graph, Ends, Chain, ChainWork, stop, go, BottomLevel, longest, level}
 use Rattle.model.specs.Graph.Chain.{link, join}
-use Rattle.model.proofs.Range.{clash, le-top, top-le, top-same, cond-le, put-same, put-other}
+use Rattle.model.proofs.Range.{clash, le-top, top-le, top-same, cond-le, put-other}
 use Rattle.model.proofs.Counting.{missing, missing-put, all-missing}
 use Rattle.model.proofs.Minimal.{Dag}
 

@@ -1,15 +1,13 @@
-use mathlib.Core.Path.{_≡_, refl, sym, _∙_, ap, subst}
-use mathlib.Core.Bool.{Bool, true, false, cond, not, _&&_, _||_}
-use mathlib.Core.Logic.{_⊎_, inl, inr, _≢_}
-use Prim.Native.Nat.{ℕ, zero, suc, _+_, _*_, _-_, _≤_, _<_, max}
+use mathlib.Core.Path.{_≡_, refl, sym, _∙_, ap}
+use mathlib.Core.Bool.{Bool, true, false}
+use mathlib.Core.Logic.{_⊎_, inl, inr}
+use Prim.Native.Nat.{ℕ, zero, suc, _-_, _≤_, _<_}
 use native.Mathlib.Omega.{arith}
-use native.Mathlib.Numerals.{add-one}
-use native.Mathlib.Decide.{ℕ-discrete, decLe, decLt}
-use lib.Dec.{eqb, ltb, leb}
+use native.Mathlib.Decide.{ℕ-discrete}
 use Rattle.model.specs.Range.{put}
 use Rattle.model.specs.Graph.{Graph, Ends, Acyclic, Chain}
 use Rattle.model.specs.Graph.Chain.{link, join}
-use Rattle.model.proofs.Range.{clash, put-other}
+use Rattle.model.proofs.Range.{put-other}
 use Rattle.model.proofs.Counting.{missing, missing-put}
 
 -- what the proofs use of a graph's law: transfers lead from task to task, and there is no cycle

@@ -1,16 +1,16 @@
-use mathlib.Core.Path.{_≡_, refl, sym, _∙_, ap, subst}
-use mathlib.Core.Bool.{Bool, true, false, cond, not, _&&_, _||_}
-use mathlib.Core.Logic.{_⊎_, inl, inr, _≢_, ⊎-elim}
-use Prim.Native.Nat.{ℕ, zero, suc, _+_, _*_, _-_, _≤_, _<_, max}
+use mathlib.Core.Path.{_≡_, refl, sym, _∙_, ap}
+use mathlib.Core.Bool.{Bool, true, false, not, _&&_, _||_}
+use mathlib.Core.Logic.{inl, inr, _≢_}
+use Prim.Native.Nat.{ℕ, _+_, _-_, _≤_, _<_, max}
 use native.Mathlib.Omega.{arith}
-use native.Mathlib.Decide.{ℕ-discrete, decLe, decLt}
+use native.Mathlib.Decide.{ℕ-discrete}
 use lib.Dec.{eqb, ltb}
 use Rattle.std.proofs.shelf.Tests.{eq-eqb, ne-eqb, eqb-true, lt-ltb, ltb-true, and-from, and-parts, and-right, not-true, not-from-false, not-from-true}
-use Rattle.model.specs.Range.{top, every, put}
+use Rattle.model.specs.Range.{put}
 use Rattle.model.specs.Graph.{Graph}
-use Rattle.model.specs.Schedule.{Schedule, Feasible, delay}
-use Rattle.model.specs.Partial.{Partial, Complete, Free, fed, ready?, free?, Obeys, finishOn, machineFinish, arrival, dataReady, startOn, append, whole}
-use Rattle.model.specs.NormalForm.{Renamed, Normal, normalForm}
+use Rattle.model.specs.Schedule.{Feasible, delay}
+use Rattle.model.specs.Partial.{Partial, Complete, Free, fed, ready?, free?, Obeys, finishOn, machineFinish, arrival, dataReady, append, whole}
+use Rattle.model.specs.NormalForm.{Renamed, normalForm}
 use Rattle.model.specs.Reachable.{Reachable, Empty}
 use Rattle.model.specs.Reachable.Reachable.{none, more}
 use Rattle.model.proofs.Range.{clash, le-top, top-le, cond-le, and-l, and-r, every-all, every-from, every-off, put-same, put-other}

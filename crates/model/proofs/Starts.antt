@@ -1,16 +1,13 @@
-use mathlib.Core.Path.{_≡_, refl, sym, _∙_, ap, subst}
-use mathlib.Core.Bool.{Bool, true, false, cond, not, _&&_, _||_}
-use mathlib.Core.Logic.{_⊎_, inl, inr, _≢_, ⊎-elim}
-use Prim.Native.Nat.{ℕ, zero, suc, _+_, _*_, _-_, _≤_, _<_, max}
+use mathlib.Core.Path.{_≡_, refl, sym, _∙_, ap}
+use mathlib.Core.Bool.{Bool, true, false, cond, not}
+use Prim.Native.Nat.{ℕ, _+_, _*_, _-_, _≤_, _<_}
 use native.Mathlib.Omega.{arith}
-use native.Mathlib.Decide.{ℕ-discrete, decLe, decLt}
+use native.Mathlib.Decide.{ℕ-discrete}
 use lib.Dec.{eqb}
 use Rattle.std.proofs.shelf.Tests.{eqb-true, not-true, not-false}
-use Rattle.model.specs.Range.{top, put}
-use Rattle.model.specs.Graph.{Graph, Ends, Works, Costs, Lawful}
-use Rattle.model.specs.Schedule.{Schedule, Feasible, delay}
+use Rattle.model.specs.Graph.{Graph, Costs, Lawful}
+use Rattle.model.specs.Schedule.{Feasible}
 use Rattle.model.specs.Partial.{Partial, Complete, Unfinished, Free, arrival, startOn, append, whole}
-use Rattle.model.specs.NormalForm.{Renamed}
 use Rattle.model.specs.Reachable.{Reachable}
 use Rattle.model.specs.Reachable.Reachable.{none, more}
 use Rattle.model.proofs.Range.{clash, top-le, cond-le, put-same, put-other}

@@ -1,5 +1,4 @@
-use mathlib.Core.Path.{_≡_}
-use Prim.Native.Nat.{ℕ, _≤_, _<_}
+use Prim.Native.Nat.{_≤_, _<_}
 use Rattle.model.specs.Graph.{Graph, Ends, Acyclic}
 use Rattle.model.specs.Cycles.{cyclic, LowestOnCycle}
 

@@ -1,6 +1,6 @@
-use mathlib.Core.Path.{_≡_, refl, sym, ap, _∙_}
+use mathlib.Core.Path.{_≡_, sym, ap, _∙_}
 use mathlib.Core.List.{List}
-use mathlib.Core.Bool.{Bool, true}
+use mathlib.Core.Bool.{Bool}
 use Prim.Native.Nat.{ℕ, _<_}
 use native.Mathlib.Decide.{ℕ-discrete}
 use lib.ListN.{getD, set, length}
@@ -9,7 +9,7 @@ use Rattle.std.specs.declared.option.Option.{Option}
 use Rattle.std.specs.declared.option.Option.the-variants.{Some, None}
 use Rattle.model.specs.Range.{put}
 use Rattle.model.specs.Graph.{Graph}
-use Rattle.model.specs.Partial.{Partial, place, append, startOn}
+use Rattle.model.specs.Partial.{place, append, startOn}
 use Rattle.model.proofs.Range.{put-same, put-other}
 use Rattle.partial.specs.declared.placement.Placement.{Placement}
 use Rattle.partial.specs.Places.{placedOf, machineOf, startOf, partialOf}

@@ -1,5 +1,5 @@
 ghost use mathlib.Core.Path.{_≡_};
-ghost use Prim.Native.Nat.{ℕ, _<_};
+ghost use Prim.Native.Nat.{_<_};
 ghost use Rattle.std.specs.Results.{Cases};
 ghost use Rattle.loader.specs.Meaning.{theGraph};
 ghost use Rattle.planrun.specs.Planning.{PlanOf, RefusalOf, headOf, lineOf, lengthOf};

@@ -1,15 +1,14 @@
 use mathlib.Core.Path.{_≡_, refl, sym, ap, _∙_, subst}
 use mathlib.Core.List.{List}
-use mathlib.Core.Bool.{Bool, true, false, not, _&&_}
-use mathlib.Core.Logic.{_⊎_, inl, inr, _≢_}
+use mathlib.Core.Bool.{true, not}
+use mathlib.Core.Logic.{inl, inr}
 use Prim.Native.Nat.{ℕ, _+_, _<_, _≤_}
 use native.Mathlib.Omega.{arith}
 use native.Mathlib.Decide.{decLe, decLt}
-use lib.Dec.{eqb, ltb, leb}
+use lib.Dec.{eqb, ltb}
 use lib.ListN.{length}
-use Rattle.std.proofs.shelf.Tests.{eq-eqb, ne-eqb, eqb-true, eqb-false, lt-ltb, le-ltb, ltb-true, leb-true, le-leb, lt-leb, and-parts, and-from, and-left, and-right, not-true, not-from-false}
+use Rattle.std.proofs.shelf.Tests.{eq-eqb, ne-eqb, eqb-true, eqb-false, lt-ltb, le-ltb, ltb-true, le-leb, lt-leb, and-parts, and-from, and-left, and-right, not-true, not-from-false}
 use Rattle.std.specs.declared.result.Result.the-variants.{Ok, Err}
-use Rattle.model.specs.Range.{first}
 use Rattle.model.specs.Graph.{Graph, Ends}
 use Rattle.model.specs.Schedule.{Schedule, Feasible, delay, makespan}
 use Rattle.model.proofs.Range.{clash, any-on, any-has, first-is}
@@ -19,7 +18,7 @@ use Rattle.schedule.specs.declared.rule.Rule.{Rule}
 use Rattle.schedule.specs.declared.rule.Rule.the-variants.{Range, Early, Overlap}
 use Rattle.schedule.specs.Rows.{scheduleOf}
 use Rattle.schedule.specs.Check.{wrong, hasty, early, collide, overlaps, breaks, lowest, verdict, checked}
-use Rattle.schedule.specs.Judged.{Passes, Lowest, Nowhere, OutOfRange, TooEarly, Overlapping, Breaks, Refuses}
+use Rattle.schedule.specs.Judged.{Lowest, Nowhere, OutOfRange, TooEarly, Overlapping, Breaks}
 
 module _ (g : Graph) (p : Schedule) where
   wrong-is : (t : ℕ) → wrong g p t ≡ true → OutOfRange g p t

@@ -1,18 +1,17 @@
-use mathlib.Core.Path.{_≡_, refl, sym, ap, _∙_}
-use mathlib.Core.Bool.{false}
+use mathlib.Core.Path.{_≡_, refl, ap}
 use Prim.Native.Nat.{ℕ, zero, suc, _+_, _<_, _≤_}
 use native.Mathlib.Omega.{arith}
 use native.Mathlib.Numerals.{add-one}
 use Rattle.model.specs.Graph.{Graph, Lawful}
 use Rattle.model.specs.Schedule.{Feasible}
-use Rattle.model.specs.Partial.{Partial, nothing, Complete, Unfinished, append, startOn, whole}
+use Rattle.model.specs.Partial.{Partial, nothing, Complete, Unfinished, append, whole}
 use Rattle.model.specs.NormalForm.{normalForm}
 use Rattle.model.specs.Reachable.{Reachable}
 use Rattle.model.specs.Reachable.Reachable.{none as no-append}
 use Rattle.model.proofs.Counting.{missing, missing-put, all-missing, missing-find, missing-none}
 use Rattle.model.proofs.Rules.{child-reachable}
-use Rattle.model.proofs.Starts.{lawful-dag, reachable-feasible, start-reachable}
-use Rattle.schedule.specs.ListSchedule.{nextTask, earliest, extend, listed, Next, Earliest, ByRule}
+use Rattle.model.proofs.Starts.{lawful-dag, reachable-feasible}
+use Rattle.schedule.specs.ListSchedule.{nextTask, earliest, extend, listed, ByRule}
 use Rattle.schedule.specs.ListSchedule.ByRule.{none, more}
 use Rattle.schedule.proofs.Choosing.{next-is, earliest-is}
 

@@ -1,6 +1,5 @@
-use mathlib.Core.Path.{_≡_, refl, sym, ap, _∙_, subst}
+use mathlib.Core.Path.{_≡_, sym, ap, _∙_, subst}
 use mathlib.Core.List.{List}
-use mathlib.Core.Bool.{Bool}
 use Prim.Native.Nat.{ℕ, _+_, _<_, _≤_}
 use native.Mathlib.Omega.{arith}
 use native.Mathlib.Decide.{decLt}
@@ -9,17 +8,14 @@ use lib.Seq.{getD-take, length-take-le}
 use Rattle.std.proofs.shelf.Lists.{getD-past}
 use Rattle.std.specs.declared.option.Option.{Option}
 use Rattle.std.specs.declared.option.Option.the-variants.{None}
-use Rattle.std.specs.declared.result.Result.{Result}
-use Rattle.std.specs.declared.result.Result.the-variants.{Ok, Err}
 use Rattle.model.specs.Graph.{Graph, Ends}
 use Rattle.model.specs.Schedule.{Schedule, Feasible, makespan}
 use Rattle.model.specs.Partial.{whole}
 use Rattle.model.proofs.Range.{top-same}
 use Rattle.partial.specs.declared.placement.Placement.{Placement}
 use Rattle.partial.specs.Places.{machineOf, startOf, partialOf}
-use Rattle.schedule.specs.declared.fault.CheckFault.{CheckFault}
 use Rattle.schedule.specs.Rows.{blank, scheduleOf}
-use Rattle.schedule.specs.Judged.{Passes, Judged}
+use Rattle.schedule.specs.Judged.{Passes}
 
 -- the row of a placement
 abbrev pub rowOf : Option Placement → Placement

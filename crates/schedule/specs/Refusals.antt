@@ -1,4 +1,3 @@
-use Prim.Native.Nat.{ℕ}
 use Rattle.refusal.specs.declared.layer.Layer.the-variants.{Check}
 use Rattle.refusal.specs.declared.refusal.Refusal.{Refusal}
 use Rattle.schedule.specs.declared.fault.CheckFault.{CheckFault}

@@ -1,7 +1,7 @@
 ghost use mathlib.Core.Path.{_≡_};
-ghost use mathlib.Core.Bool.{Bool, true, false, cond, not, _&&_};
-ghost use Prim.Native.Nat.{ℕ, _<_, _≤_, _+_};
-ghost use lib.ListN.{getD, length};
+ghost use mathlib.Core.Bool.{true, false, _&&_};
+ghost use Prim.Native.Nat.{_<_, _+_};
+ghost use lib.ListN.{length};
 ghost use Rattle.model.specs.Schedule.{makespan};
 ghost use Rattle.loader.specs.Meaning.{theGraph};
 ghost use Rattle.schedule.specs.Rows.{scheduleOf};

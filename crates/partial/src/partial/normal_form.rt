@@ -1,6 +1,6 @@
 ghost use mathlib.Core.Path.{_≡_};
-ghost use mathlib.Core.Bool.{Bool, true, false, cond};
-ghost use Prim.Native.Nat.{ℕ, _<_, _≤_, _+_};
+ghost use mathlib.Core.Bool.{true, false};
+ghost use Prim.Native.Nat.{_<_, _≤_, _+_};
 ghost use Rattle.model.specs.Partial.{Partial};
 ghost use Rattle.model.specs.NormalForm.{note, naming, normalForm, OnMachines, Renamed, Renames, Normal, Same};
 ghost use Rattle.loader.specs.Meaning.{theGraph};

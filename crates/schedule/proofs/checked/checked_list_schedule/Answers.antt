@@ -1,5 +1,4 @@
 use mathlib.Core.Path.{_≡_, sym, _∙_, ap, subst}
-use mathlib.Core.List.{List}
 use Prim.Native.Nat.{ℕ, _-_}
 use native.Mathlib.Omega.{arith}
 use lib.ListN.{take}
@@ -8,7 +7,6 @@ use Rattle.model.specs.Partial.{Partial, whole}
 use Rattle.loader.specs.Meaning.{theGraph}
 use Rattle.loader.proofs.Laws.{theLawful}
 use Rattle.partial.specs.Meaning.{thePartial}
-use Rattle.partial.specs.declared.placement.Placement.{Placement}
 use Rattle.schedule.specs.Rows.{scheduleOf}
 use Rattle.schedule.specs.Judged.{Passes}
 use Rattle.schedule.proofs.Passing.{alike-makespan, taken-alike, rows-pass}

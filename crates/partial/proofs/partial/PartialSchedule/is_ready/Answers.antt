@@ -1,7 +1,7 @@
 use borrow.Author.Needs.{needs}
 use native.Mathlib.Omega.{arith}
 use mathlib.Core.Path.{_≡_, sym, _∙_}
-use mathlib.Core.Bool.{true, false}
+use mathlib.Core.Bool.{false}
 use Rattle.model.proofs.Range.{every-more}
 use Rattle.model.proofs.Rules.{ready-off}
 use Rattle.loader.specs.Meaning.{theGraph}

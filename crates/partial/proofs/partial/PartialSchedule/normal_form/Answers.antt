@@ -3,12 +3,11 @@ use native.Mathlib.Omega.{arith}
 use native.Mathlib.Decide.{decLt}
 use mathlib.Core.Logic.{_≢_}
 use mathlib.Core.Path.{_≡_, sym, _∙_, ap, subst}
-use Prim.Native.Nat.{ℕ, _<_, _≤_}
-use lib.ListN.{length, getD, length-set}
+use Prim.Native.Nat.{_<_}
+use lib.ListN.{length, length-set}
 use lib.Seq.{getD-set-same, getD-set-other}
 use Rattle.std.proofs.shelf.Lists.{getD-past}
 use Rattle.std.specs.declared.option.Option.the-variants.{None}
-use Rattle.model.specs.Partial.{Partial}
 use Rattle.model.specs.NormalForm.{normalForm, Renames, Normal, Same}
 use Rattle.model.proofs.Naming.{form-normal, form-renames, one-form}
 use Rattle.loader.specs.Meaning.{theGraph}
