@@ -66,15 +66,6 @@ pub every-from : (n : ℕ) (f : ℕ → Bool) → ((k : ℕ) → k < n → f k �
 every-from zero f h = refl
 every-from (suc n) f h = rw (every-from n f (λ k l. h k (omega arith)), h n (omega arith))
 
-pub every-not : (n : ℕ) (f : ℕ → Bool) → every n f ≡ false → (k : ℕ) × (k < n) × (f k ≡ false)
-every-not zero f e = clash false (sym e) refl
-every-not (suc n) f e = go (every n f) refl (f n) refl (every-not n f)
-  where
-    go : (b : Bool) → every n f ≡ b → (c : Bool) → f n ≡ c → (every n f ≡ false → (k : ℕ) × (k < n) × (f k ≡ false)) → (k : ℕ) × (k < suc n) × (f k ≡ false)
-    go false p c q ih = let x = ih p in (x .0, omega (arith, x .1), x .2)
-    go true p false q ih = (n, omega arith, q)
-    go true p true q ih = clash false (sym (sym (rw (p, q)) ∙ e)) refl
-
 pub every-off : (n k : ℕ) (f : ℕ → Bool) → k < n → f k ≡ false → every n f ≡ false
 every-off zero k f h e = absurd (omega arith)
 every-off (suc n) k f h e = elim (ℕ-discrete k n) [

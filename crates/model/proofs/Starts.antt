@@ -22,15 +22,6 @@ delay-le : (g : Graph) → Costs g → (k : ℕ) → k < g .count → (b : Bool)
 delay-le g C k h true = omega arith
 delay-le g C k h false = C k h
 
--- where a task starts if no start is above y
-pub start-le : (g : Graph) → Lawful g → (s : Partial) (y : ℕ) → ((u : ℕ) → u < g .tasks → s .start u ≤ y) → (t m : ℕ) → startOn g s t m ≤ y + 2000
-start-le g L s y h t m =
-    let a = top-le (g .count) (arrival g s t m) (y + 2000)
-    (λ k hk. cond-le (eqb (g .to k) t) _ (y + 2000) (λ q. let f = L .ends k hk .0 in
-    omega (arith, h (g .from k) f, L .works (g .from k) f .1, delay-le g (L .costs) k hk (eqb (s .machine (g .from k)) m)))) in
-    let b = finish-le g s m (y + 2000) (λ u hu q e. omega (arith, h u hu, L .works u hu .1)) in
-    omega arith
-
 -- each placed task leaves room for 2,000 units more for each missing one
 abbrev Early : Graph → Partial → Type 0
 Early g s = (t : ℕ) → t < g .tasks → s .placed t ≡ true → s .start t + 2000 * missing (s .placed) (g .tasks) + 2000 ≤ 2000 * g .tasks
