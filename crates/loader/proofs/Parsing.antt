@@ -6,7 +6,6 @@ use native.Mathlib.Omega.{arith}
 use native.Mathlib.Decide.{decLt}
 use lib.Dec.{ltb}
 use Rattle.std.proofs.shelf.Tests.{cond-true, cond-false, lt-ltb, le-ltb, ltb-false}
-use Rattle.std.specs.declared.result.Result.{Result}
 use Rattle.std.specs.declared.result.Result.the-variants.{Ok, Err}
 use Rattle.model.specs.Graph.{Graph, Lawful}
 use Rattle.model.specs.Cycles.{cyclic, LowestOnCycle}
@@ -61,9 +60,3 @@ cycle-refused bs d t s l low =
           andThen-at (decode bs) cycleTest d (Err (Cycle (8 + 6 * t))) (decode-reads bs d s l) (cond-true _ _ _ (lt-ltb _ _ h) ∙ ap (λ (v : ℕ). Err (Cycle (8 + 6 * v))) q)
       | no h ↦ absurd (cyclic-none g (l .ends) (omega (arith, h)) t (low .1))
     ]
-
-pub cycle-only : {A : Type 0} (bs : List ℕ) (e : GraphFault) → parse bs ≡ Err e → (d : Description) (t : ℕ) → Encodes bs d → LawfulButForCycles (described d) → LowestOnCycle (described d) t → _≡_ {A = Result A GraphFault} (Err e) (Err (Cycle (8 + 6 * t)))
-cycle-only {A} bs e h d t s l low = let k = cycle-refused bs d t s l low in let q : e ≡ Cycle (8 + 6 * t) = cc in ap (λ (f : GraphFault). Err f) q
-
-pub cycle-not : (bs : List ℕ) (g : Description) → parse bs ≡ Ok g → (d : Description) (t : ℕ) → Encodes bs d → LawfulButForCycles (described d) → LowestOnCycle (described d) t → ⊥
-cycle-not bs g h d t s l low = ok-err g (Cycle (8 + 6 * t)) (sym h ∙ cycle-refused bs d t s l low)

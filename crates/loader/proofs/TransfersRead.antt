@@ -101,13 +101,12 @@ module _ (bs : List ℕ) (n : ℕ) (tasks-inside : 8 + 6 * n ≤ length bs) wher
   transfers-told ts e = finish-told 129 (after bs n 129) ts (after-told 129) e
 
 -- what stands in the records is read
-module _ (bs : List ℕ) (n : ℕ) (ts : List Transfer) (s : ShownAll bs n ts) (c : Closed bs n ts) where
-  after-shown : (k : ℕ) → k ≤ length ts → after bs n k ≡ reading (take k ts)
+module _ (bs : List ℕ) (n : ℕ) (ts : List Transfer) (s : ShownAll bs n ts) (z : placeOf n (length ts) ≤ length bs) where
+  pub after-shown : (k : ℕ) → k ≤ length ts → after bs n k ≡ reading (take k ts)
   after-shown zero h = refl
   after-shown (suc k) h =
       let lt : k < length ts = omega arith in
       let t = getD ts k blank in
-      let z = c .1 in
       let y = s .few in
       let l = length-take-le k ts (omega arith) in
       let x = s .shown k lt in
@@ -115,8 +114,10 @@ module _ (bs : List ℕ) (n : ℕ) (ts : List Transfer) (s : ShownAll bs n ts) (
       let m : take (suc k) ts ≡ take k ts ++ t ∷ [] = rw add-one at (take-more ts k blank lt) in
       stepped bs n k ts (omega arith) (after-shown k (omega arith)) (Ok (More t)) e ∙ ap (λ (x : List Transfer). reading x) (sym m)
 
+module _ (bs : List ℕ) (n : ℕ) (ts : List Transfer) (s : ShownAll bs n ts) (c : Closed bs n ts) where
   pub transfers-read : readTransfers bs n ≡ Ok ts
   transfers-read =
       let m = length ts in
+      let z = c .1 in
       let e = end-reads bs n (take m ts) (placeOf n m) (c .1) (c .0) in
-      transfers-end bs n m ts (omega arith) (after-shown m (omega arith)) (s .few) e ∙ ap (λ (x : List Transfer). Ok x) (take-all m ts (omega arith))
+      transfers-end bs n m ts (omega arith) (after-shown bs n ts s (omega arith) m (omega arith)) (s .few) e ∙ ap (λ (x : List Transfer). Ok x) (take-all m ts (omega arith))

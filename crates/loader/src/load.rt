@@ -1,15 +1,14 @@
 ghost use mathlib.Core.Path.{_≡_};
-ghost use Prim.Native.Nat.{ℕ, _+_, _*_, _≤_};
+ghost use Prim.Native.Nat.{_+_, _*_, _≤_};
 ghost use lib.ListN.{take};
 ghost use Rattle.std.specs.Results.{Cases};
 ghost use Rattle.std.specs.declared.result.Result.the-variants.{Ok, Err};
 ghost use Rattle.model.specs.Graph.{Lawful};
-ghost use Rattle.model.specs.Cycles.{LowestOnCycle};
-ghost use Rattle.loader.specs.declared.faults.GraphFault.the-variants.{Cycle};
+ghost use Rattle.refusal.specs.declared.refusal.Refusal.{Refusal};
 ghost use Rattle.loader.specs.Description.{Description, described};
 ghost use Rattle.loader.specs.Meaning.{description, theGraph};
 ghost use Rattle.loader.specs.Parse.{parse, cycleTest};
-ghost use Rattle.loader.specs.Encoding.{Encodes, LawfulButForCycles};
+ghost use Rattle.loader.specs.Encoding.{Encodes};
 ghost use Rattle.loader.specs.Refusals.{refusalOf};
 ghost use Rattle.loader.specs.Refused.{Refused};
 use crate::cycles::lowest_on_cycle;
@@ -51,7 +50,7 @@ pub fn load(graph: &mut TaskGraph, bytes: &[u8]) -> Result<(), GraphFault>
     ensures means { λ r. ⌜ Cases r (λ _. described (description (now (graph .exit))) ≡ theGraph (now (graph .exit))) (λ _. Unit {0}) ⌝ }
     ensures exactly { λ r. ⌜ Cases r (λ _. Encodes (now (bytes .entry)) (description (now (graph .exit))) × Lawful (described (description (now (graph .exit))))) (λ _. (d : Description) → Encodes (now (bytes .entry)) d → Lawful (described d) → ⊥) ⌝ }
     ensures refused { λ r. ⌜ Cases r (λ _. Unit {0}) (λ e. Refused (now (bytes .entry)) (refusalOf e)) ⌝ }
-    ensures cyclic { λ r. ⌜ ((d : Description) (t : ℕ) → Encodes (now (bytes .entry)) d → LawfulButForCycles (described d) → LowestOnCycle (described d) t → r ≡ Err (Cycle (8 + 6 * t))) ⌝ }
+    ensures only { λ r. ⌜ ((q : Refusal) → Refused (now (bytes .entry)) q → Cases r (λ _. ⊥) (λ e. refusalOf e ≡ q)) ⌝ }
 {
     *graph = read(bytes)?;
     Ok(())
