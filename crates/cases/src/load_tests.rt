@@ -25,27 +25,41 @@ fn single(heap: Global, from: u16, to: u16, cost: u16) -> Result<(u8, usize), Fa
     Ok(file.told())
 }
 
+// Tasks, machines and work; then how the file is told.
+const COUNTS: [(u16, u16, u16, u8, usize); 8] = [
+    (31, 8, 1, 0, 31),
+    (32, 1, 1000, 0, 32),
+    (33, 1, 1, 4, 0),
+    (0, 1, 1, 4, 0),
+    (1, 9, 1, 4, 0),
+    (1, 0, 1, 4, 0),
+    (2, 1, 1001, 4, 8),
+    (2, 1, 0, 4, 8),
+];
+
 #[test]
 fn numbers_in_range(rt: LibcRuntime) -> Result<(), Fail> {
-    let heap = rt.alloc();
-    check_eq(plain(heap, 31, 8, 1)?, (0, 31))?;
-    check_eq(plain(heap, 32, 1, 1000)?, (0, 32))?;
-    check_eq(plain(heap, 33, 1, 1)?, (4, 0))?;
-    check_eq(plain(heap, 0, 1, 1)?, (4, 0))?;
-    check_eq(plain(heap, 1, 9, 1)?, (4, 0))?;
-    check_eq(plain(heap, 1, 0, 1)?, (4, 0))?;
-    check_eq(plain(heap, 2, 1, 1001)?, (4, 8))?;
-    check_eq(plain(heap, 2, 1, 0)?, (4, 8))
+    for (tasks, machines, work, number, place) in COUNTS {
+        check_eq(plain(rt.alloc(), tasks, machines, work)?, (number, place))?;
+    }
+    Ok(())
 }
+
+// From, to and cost; then how the file is told.
+const TRANSFERS: [(u16, u16, u16, u8, usize); 5] = [
+    (1, 0, 1000, 0, 2),
+    (0, 1, 1001, 4, 20),
+    (0, 2, 0, 4, 20),
+    (2, 0, 0, 4, 20),
+    (1, 1, 0, 4, 20),
+];
 
 #[test]
 fn transfers_in_range(rt: LibcRuntime) -> Result<(), Fail> {
-    let heap = rt.alloc();
-    check_eq(single(heap, 1, 0, 1000)?, (0, 2))?;
-    check_eq(single(heap, 0, 1, 1001)?, (4, 20))?;
-    check_eq(single(heap, 0, 2, 0)?, (4, 20))?;
-    check_eq(single(heap, 2, 0, 0)?, (4, 20))?;
-    check_eq(single(heap, 1, 1, 0)?, (4, 20))
+    for (from, to, cost, number, place) in TRANSFERS {
+        check_eq(single(rt.alloc(), from, to, cost)?, (number, place))?;
+    }
+    Ok(())
 }
 
 // So many pairs of 32 tasks, then one more transfer.
@@ -58,18 +72,22 @@ fn crowded(heap: Global, count: usize, last: [u16; 3]) -> Result<(u8, usize), Fa
     Ok(file.told())
 }
 
+// How many pairs come first, and the last transfer; then how the file is told. At the 129th transfer the range
+// is tested before the number of transfers, and that before the pair.
+const CROWDS: [(usize, [u16; 3], u8, usize); 5] = [
+    (127, [30, 31, 0], 0, 32),
+    (128, [30, 31, 0], 5, 1480),
+    (128, [30, 32, 0], 4, 1480),
+    (128, [0, 1, 0], 5, 1480),
+    (127, [0, 1, 7], 6, 1470),
+];
+
 #[test]
 fn many_transfers(rt: LibcRuntime) -> Result<(), Fail> {
-    let heap = rt.alloc();
-    check_eq(crowded(heap, 127, [30, 31, 0])?, (0, 32))?;
-    check_eq(crowded(heap, 128, [30, 31, 0])?, (5, 1480))?;
-    check_eq(crowded(heap, 128, [30, 32, 0])?.0, 4).note(
-        "the range is tested before the number of transfers",
-    )?;
-    check_eq(crowded(heap, 128, [0, 1, 0])?.0, 5).note(
-        "the number of transfers is tested before the pair",
-    )?;
-    check_eq(crowded(heap, 127, [0, 1, 7])?, (6, 1470))
+    for (count, last, number, place) in CROWDS {
+        check_eq(crowded(rt.alloc(), count, last)?, (number, place))?;
+    }
+    Ok(())
 }
 
 #[test]

@@ -1,7 +1,7 @@
 pub mod name;
 
 // The layers that refuse.
-#[derive(Clone, Copy, PartialEq, Debug)]
+#[derive(Clone, Copy)]
 pub enum Layer {
     Bytes,
     Records,

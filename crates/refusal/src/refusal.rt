@@ -1,11 +1,9 @@
 use crate::layer::Layer;
-use crate::layer::LayerDebug;
-use crate::layer::LayerPartialEq;
 
 pub mod display;
 
 // What is told of a refusal: its number, the place, and the layer that refused.
-#[derive(Clone, Copy, PartialEq, Debug)]
+#[derive(Clone, Copy)]
 pub struct Refusal {
     pub number: u8,
     pub place: usize,
