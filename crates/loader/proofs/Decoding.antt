@@ -8,7 +8,8 @@ use Rattle.std.specs.declared.result.Result.the-variants.{Ok}
 use Rattle.loader.specs.Description.{Description, described}
 use Rattle.loader.specs.Layout.{placeOf}
 use Rattle.loader.specs.Parse.{headerAt, readWorks, readTransfers, endAt, decode}
-use Rattle.loader.specs.Encoding.{Encodes, LawfulButForCycles}
+use Rattle.model.specs.Graph.{LawfulButForCycles}
+use Rattle.loader.specs.Encoding.{Encodes}
 use Rattle.loader.proofs.Chaining.{andThen-ok, andThen-at}
 use Rattle.loader.proofs.SingleRecords.{header-reads, header-told, header-range, tail-reads, tail-told}
 use Rattle.loader.proofs.WorksRead.{works-told, works-inside, works-read}

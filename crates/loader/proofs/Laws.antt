@@ -13,12 +13,14 @@ use Rattle.loader.specs.Meaning.{theGraph, worksOf, transfersOf, levelsOf, des
 -- every value of the type is lawful
 pub theLawful : (g : TaskGraph) → Lawful (theGraph g)
 theLawful g = record {
-  sizes = g .sizes;
-  works = g .worked;
-  costs = g .priced;
-  ends = g .ends;
-  apart = g .apart;
-  pairs = g .pairs;
+  numbers = record {
+    sizes = g .sizes;
+    works = g .worked;
+    costs = g .priced;
+    ends = g .ends;
+    apart = g .apart;
+    pairs = g .pairs;
+  };
   acyclic = g .acyclic;
 }
 

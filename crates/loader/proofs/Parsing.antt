@@ -7,29 +7,27 @@ use native.Mathlib.Decide.{decLt}
 use lib.Dec.{ltb}
 use Rattle.std.proofs.shelf.Tests.{cond-true, cond-false, lt-ltb, le-ltb, ltb-false}
 use Rattle.std.specs.declared.result.Result.the-variants.{Ok, Err}
-use Rattle.model.specs.Graph.{Graph, Lawful}
+use Rattle.model.specs.Graph.{Graph, LawfulButForCycles, Lawful}
 use Rattle.model.specs.Cycles.{cyclic, LowestOnCycle}
 use Rattle.model.proofs.Cycles.{cyclic-lowest, cyclic-none, acyclic-none}
 use Rattle.loader.specs.declared.faults.GraphFault.{GraphFault}
 use Rattle.loader.specs.declared.faults.GraphFault.the-variants.{Cycle}
 use Rattle.loader.specs.Description.{Description, described}
 use Rattle.loader.specs.Parse.{decode, cycleTest, parse}
-use Rattle.loader.specs.Encoding.{Encodes, LawfulButForCycles}
+use Rattle.loader.specs.Encoding.{Encodes}
 use Rattle.loader.proofs.Chaining.{ok-err, andThen-ok, andThen-at, refuse-ok}
 use Rattle.loader.proofs.Decoding.{decode-reads, decode-told}
 
-pub lawful-but : {g : Graph} → Lawful g → LawfulButForCycles g
-lawful-but l = record { sizes = l .sizes; works = l .works; costs = l .costs; ends = l .ends; apart = l .apart; pairs = l .pairs }
-
+-- without a cycle the numbers are the whole law
 pub lawful-all : {g : Graph} → LawfulButForCycles g → g .tasks ≤ cyclic g → Lawful g
-lawful-all {g} l h = record { sizes = l .sizes; works = l .works; costs = l .costs; ends = l .ends; apart = l .apart; pairs = l .pairs; acyclic = cyclic-none g (l .ends) h }
+lawful-all {g} l h = record { numbers = l; acyclic = cyclic-none g (l .ends) h }
 
 -- a lawful description that the file holds is read
 pub parse-reads : (bs : List ℕ) (d : Description) → Encodes bs d → Lawful (described d) → parse bs ≡ Ok d
 parse-reads bs d s l =
     let a = acyclic-none (described d) (l .acyclic) in
     let f : ltb (cyclic (described d)) (d .tasks) ≡ false = le-ltb (cyclic (described d)) (d .tasks) (omega arith) in
-    andThen-at (decode bs) cycleTest d (Ok d) (decode-reads bs d s (lawful-but l)) (cond-false _ _ _ f)
+    andThen-at (decode bs) cycleTest d (Ok d) (decode-reads bs d s (l .numbers)) (cond-false _ _ _ f)
 
 -- what is read is held by the file, and lawful
 pub parse-told : (bs : List ℕ) (d : Description) → parse bs ≡ Ok d → Encodes bs d × Lawful (described d)

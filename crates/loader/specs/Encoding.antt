@@ -2,7 +2,6 @@ use mathlib.Core.Path.{_≡_}
 use mathlib.Core.List.{List}
 use Prim.Native.Nat.{ℕ, _+_, _*_, _<_}
 use lib.ListN.{length, getD}
-use Rattle.model.specs.Graph.{Graph, Sizes, Works, Costs, Ends, Apart, SamePair}
 use Rattle.loader.specs.declared.transfer.Transfer.{Transfer}
 use Rattle.loader.specs.View.{blank}
 use Rattle.loader.specs.Description.{Description}
@@ -29,12 +28,3 @@ pub record Encodes (bs : List ℕ) (d : Description) : Type 0 where
   pub task : (k : ℕ) → k < d .tasks → TaskAt bs (8 + 6 * k) (getD (d .works) k 0)
   pub transfer : (k : ℕ) → k < length (d .transfers) → TransferAt bs (placeOf (d .tasks) k) (getD (d .transfers) k blank)
   pub last : RecordAt bs (placeOf (d .tasks) (length (d .transfers))) 4 0
-
--- the law of a graph but for cycles: what the records of a file show one by one
-pub record LawfulButForCycles (g : Graph) : Type 0 where
-  pub sizes : Sizes g
-  pub works : Works g
-  pub costs : Costs g
-  pub ends : Ends g
-  pub apart : Apart g
-  pub pairs : (i j : ℕ) → SamePair g i j → ⊥

@@ -3,7 +3,7 @@ use mathlib.Core.List.{List, []}
 use mathlib.Core.Logic.{_⊎_}
 use Prim.Native.Nat.{ℕ, _+_, _*_, _≤_, _<_}
 use lib.ListN.{length, getD}
-use Rattle.model.specs.Graph.{Sizes, SamePair}
+use Rattle.model.specs.Graph.{Sizes, SamePair, LawfulButForCycles}
 use Rattle.model.specs.Cycles.{LowestOnCycle}
 use Rattle.refusal.specs.declared.layer.Layer.the-variants.{Bytes, Records, Graph}
 use Rattle.refusal.specs.declared.refusal.Refusal.{Refusal}
@@ -12,7 +12,7 @@ use Rattle.loader.specs.View.{blank}
 use Rattle.loader.specs.Description.{Description, described}
 use Rattle.loader.specs.Bytes.{wordAt}
 use Rattle.loader.specs.Layout.{placeOf}
-use Rattle.loader.specs.Encoding.{RecordAt, TaskAt, TransferAt, Encodes, LawfulButForCycles}
+use Rattle.loader.specs.Encoding.{RecordAt, TaskAt, TransferAt, Encodes}
 
 -- a work is in range
 abbrev pub WorkInRange : ℕ → Type 0

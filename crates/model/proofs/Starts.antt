@@ -16,7 +16,7 @@ use Rattle.model.proofs.Minimal.{Dag, minimal}
 use Rattle.model.proofs.Rules.{finish-le, reachable-obeys, complete-feasible}
 
 pub lawful-dag : {g : Graph} → Lawful g → Dag g
-lawful-dag L = record { ends = L .ends; acyclic = L .acyclic }
+lawful-dag L = record { ends = L .numbers .ends; acyclic = L .acyclic }
 
 delay-le : (g : Graph) → Costs g → (k : ℕ) → k < g .count → (b : Bool) → cond b 0 (g .cost k) ≤ 1000
 delay-le g C k h true = omega arith
@@ -31,9 +31,9 @@ module _ (g : Graph) (L : Lawful g) (s : Partial) (E : Early g s) (t m : ℕ) (F
   next =
       let M : ℕ = missing (s .placed) (g .tasks) in
       let a = top-le (g .count) (arrival g s t m) (2000 * g .tasks - 2000 * M)
-      (λ k hk. cond-le (eqb (g .to k) t) _ (2000 * g .tasks - 2000 * M) (λ q. let f = L .ends k hk .0 in
-      omega (arith, E (g .from k) f (F .2 k hk (eqb-true _ _ q)), L .works (g .from k) f .1, delay-le g (L .costs) k hk (eqb (s .machine (g .from k)) m)))) in
-      let b = finish-le g s m (2000 * g .tasks - 2000 * M) (λ u hu q e. omega (arith, E u hu q, L .works u hu .1)) in
+      (λ k hk. cond-le (eqb (g .to k) t) _ (2000 * g .tasks - 2000 * M) (λ q. let f = L .numbers .ends k hk .0 in
+      omega (arith, E (g .from k) f (F .2 k hk (eqb-true _ _ q)), L .numbers .works (g .from k) f .1, delay-le g (L .numbers .costs) k hk (eqb (s .machine (g .from k)) m)))) in
+      let b = finish-le g s m (2000 * g .tasks - 2000 * M) (λ u hu q e. omega (arith, E u hu q, L .numbers .works u hu .1)) in
       omega (arith, missing-le (s .placed) (g .tasks))
 
   appended-early : Early g (append g s t m)
@@ -58,7 +58,7 @@ early g L (more {s} {c} t m R F h N X) = go (appended-early g L s (early g L R) 
 
 -- the placed tasks of a reachable partial schedule start at 62,000 at the latest
 pub reachable-small : (g : Graph) → Lawful g → {s : Partial} → Reachable g s → (t : ℕ) → t < g .tasks → s .placed t ≡ true → s .start t ≤ 62000
-reachable-small g L R t h e = omega (arith, early g L R t h e, L .sizes .1)
+reachable-small g L R t h e = omega (arith, early g L R t h e, L .numbers .sizes .1)
 
 -- a complete reachable partial schedule is feasible
 pub reachable-feasible : (g : Graph) → Lawful g → {s : Partial} → Reachable g s → Complete g s → Feasible g (whole s)
@@ -73,4 +73,4 @@ some-free g S s x =
 
 -- where a free task of a reachable partial schedule starts
 pub start-reachable : (g : Graph) → Lawful g → {s : Partial} → Reachable g s → (t m : ℕ) → Free g s t → startOn g s t m ≤ 64000
-start-reachable g L {s} R t m F = omega (arith, next g L s (early g L R) t m F, L .sizes .1)
+start-reachable g L {s} R t m F = omega (arith, next g L s (early g L R) t m F, L .numbers .sizes .1)

@@ -47,14 +47,18 @@ Costs g = (k : ℕ) → k < g .count → g .cost k ≤ 1000
 abbrev pub Sizes : Graph → Type 0
 Sizes g = (1 ≤ g .tasks) × (g .tasks ≤ 32) × (1 ≤ g .machines) × (g .machines ≤ 8) × (g .count ≤ 128)
 
--- the law of every graph that exists
-pub record Lawful (g : Graph) : Type 0 where
+-- the law of a graph but for cycles: what its numbers show one by one
+pub record LawfulButForCycles (g : Graph) : Type 0 where
   pub sizes : Sizes g
   pub works : Works g
   pub costs : Costs g
   pub ends : Ends g
   pub apart : Apart g
   pub pairs : (i j : ℕ) → SamePair g i j → ⊥
+
+-- the law of every graph that exists
+pub record Lawful (g : Graph) : Type 0 where
+  pub numbers : LawfulButForCycles g
   pub acyclic : Acyclic g
 
 -- the sum of work along a chain of transfers that begins with a task

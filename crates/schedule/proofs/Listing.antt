@@ -31,7 +31,7 @@ module _ (g : Graph) (L : Lawful g) where
       let t = nextTask g s (g .tasks) in
       let m = earliest g s t (g .machines) in
       let N = next-is g (lawful-dag L) s (facts-open g k s F h) in
-      let E = earliest-is g s t (L .sizes .2) in
+      let E = earliest-is g s t (L .numbers .sizes .2) in
       record {
         reachable = child-reachable g (lawful-dag L) s t m (F .reachable) (N .free) (E .low);
         rest = omega (arith, F .rest, missing-put (s .placed) t (g .tasks) (N .free .0) (N .free .1));

@@ -41,12 +41,19 @@ pub fn rows(q: &PartialSchedule) -> [Placement; 32]
     rows
 }
 
+// The rows of the graph's tasks.
+fn task_rows<'a>(g: &TaskGraph, rows: &'a [Placement; 32]) -> &'a [Placement]
+    ensures { λ r. ⌜ now r ≡ take (theGraph (now (g .entry)) .tasks) (now (rows .entry)) ⌝ }
+{
+    &rows[0..g.tasks()]
+}
+
 // The list schedule of a graph, checked against the rules: the check always passes it.
 pub fn checked_list_schedule(g: &TaskGraph) -> Result<CheckedSchedule, CheckFault>
     ensures is { λ r. ⌜ Cases r (λ p. (scheduleOf (p .rows) ≡ whole (listed (theGraph (now (g .entry))) (theGraph (now (g .entry)) .tasks))) × (p .makespan ≡ makespan (theGraph (now (g .entry))) (scheduleOf (p .rows)))) (λ _. ⊥) ⌝ }
     ensures passes { λ r. ⌜ Cases r (λ p. Passes (theGraph (now (g .entry))) (take (theGraph (now (g .entry)) .tasks) (p .rows))) (λ _. ⊥) ⌝ }
 {
     let rows = rows(&list_schedule(g));
-    let makespan = check(g, &rows[0..g.tasks()])?;
+    let makespan = check(g, task_rows(g, &rows))?;
     Ok(CheckedSchedule { rows, makespan })
 }

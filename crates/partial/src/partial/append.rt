@@ -12,6 +12,9 @@ use crate::partial::PartialSchedule;
 use crate::placement::Placement;
 use loader::graph::TaskGraph;
 
+// The latest start that a placement can hold.
+const LAST_START: u64 = 4294967295;
+
 impl PartialSchedule {
     // Whether task t is free and machine m is one of the graph's.
     fn is_open(&self, g: &TaskGraph, t: usize, m: u8) -> bool
@@ -30,7 +33,7 @@ impl PartialSchedule {
             return None;
         }
         let start = self.start_on(g, t, m);
-        if start > 4294967295 {
+        if start > LAST_START {
             return None;
         }
         let mut places = self.places;

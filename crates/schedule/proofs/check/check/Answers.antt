@@ -57,5 +57,5 @@ returns c =
     let p = scheduleOf rows in
     record {
       is = says-ok G rows e _ _ _ _ a (omega arith) b (omega arith) d (omega arith) v;
-      exactly = ((e, obeys-all G p (theLawful (c .args .g .now) .ends) (nowhere G p Range _ a (omega arith)) (nowhere G p Early _ b (omega arith)) (nowhere G p Overlap _ d (omega arith))), v);
+      exactly = ((e, obeys-all G p (theLawful (c .args .g .now) .numbers .ends) (nowhere G p Range _ a (omega arith)) (nowhere G p Early _ b (omega arith)) (nowhere G p Overlap _ d (omega arith))), v);
     }

@@ -20,4 +20,4 @@ returns c =
     let s = thePartial (c .args .q .now) in
     let t = c .args .t in
     let e : c .loop-m .best ≡ earliest G s t (G .machines) = search needs in
-    record { is = e; law = subst (Earliest G s t) (sym e) (earliest-is G s t (theLawful g .sizes .2)) }
+    record { is = e; law = subst (Earliest G s t) (sym e) (earliest-is G s t (theLawful g .numbers .sizes .2)) }

@@ -22,8 +22,8 @@ returns-then-not-is-open c =
       keeps-rules = λ o. tt;
     }
 
-pub returns-then-start-gt4294967295 : need.returns-then-start-gt4294967295
-returns-then-start-gt4294967295 c = record { is = λ A. omega (arith, A .2, c .start-on-start .ensures .is); keeps-rules = λ o. tt }
+pub returns-then-start-gt-LAST-START : need.returns-then-start-gt-LAST-START
+returns-then-start-gt-LAST-START c = record { is = λ A. omega (arith, A .2, c .start-on-start .ensures .is); keeps-rules = λ o. tt }
 
 pub returns : need.returns
 returns c =
