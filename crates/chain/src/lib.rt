@@ -1,3 +1,5 @@
+#![tactic(auto)]
+
 pub mod cell;
 pub mod entry_chain;
 mod links;

@@ -1,3 +1,5 @@
+#![tactic(auto)]
+
 pub mod heap;
 pub mod order;
 mod sift;

@@ -1,3 +1,5 @@
+#![tactic(auto)]
+
 // Drives an entry heap and a chain side by side through one long sequence of puts and takes, and prints what each answers:
 // a line of the heap, then a line of the chain, for every sixteen requests.
 use crate::ask::ask_both;

@@ -1,3 +1,5 @@
+#![tactic(auto)]
+
 pub mod names;
 pub mod partial;
 pub mod placement;

@@ -1,3 +1,5 @@
+#![tactic(auto)]
+
 // Reads a run file from standard input, list-schedules its task graph, and prints the schedule or the refusal.
 use crate::plan::{Planned, head_line, length_line, plan_file, task_line};
 use anyhow::anyhow;

@@ -1,3 +1,5 @@
+#![tactic(auto)]
+
 pub mod entry;
 pub mod entry_heap;
 pub mod open_list;

@@ -1,2 +1,4 @@
+#![tactic(auto)]
+
 pub mod layer;
 pub mod refusal;

@@ -1,3 +1,5 @@
+#![tactic(auto)]
+
 pub mod check;
 pub mod checked;
 pub mod fault;
