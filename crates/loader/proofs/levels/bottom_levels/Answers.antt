@@ -12,7 +12,7 @@ raised-low-requires c =
     record {
       sizes = c.requires.sizes;
       inside = λ k h. (c.requires.ends k h).1;
-      small = λ t h. omega (arith, c.loop-round.invariant 0 t h, longest-small g c.requires.ends c.requires.small c.loop-round.-round t h, c.loop-round-test.true, c.requires.sizes);
+      small = λ t h. omega (arith, c.loop-round.invariant 0 t h, longest-small g c.requires.ends c.requires.small c.loop-round._round t h, c.loop-round-test.true, c.requires.sizes);
     }
 
 pub loop-round-preserved : goal.loop-round-preserved
@@ -20,7 +20,7 @@ loop-round-preserved c p t h =
     let ws = c.args.works.now in
     let ts = c.args.transfers.now in
     let g = graph_of (length ws) p ws (length ts) ts in
-    c.raised-low.ensures t h ∙ longest-more g c.requires.ends (λ t. get_or c.loop-round.low t 0) c.loop-round.-round (c.loop-round.invariant p) t
+    c.raised-low.ensures t h ∙ longest-more g c.requires.ends (λ t. get_or c.loop-round.low t 0) c.loop-round._round (c.loop-round.invariant p) t
 
 pub returns : goal.returns
 unfolding level
@@ -28,4 +28,4 @@ returns c p t h =
     let ws = c.args.works.now in
     let ts = c.args.transfers.now in
     let g = graph_of (length ws) p ws (length ts) ts in
-    c.loop-round.invariant p t h ∙ ap (λ (k : ℕ). longest g k t) (let z : c.loop-round.-round ≡ length ws = omega arith in z)
+    c.loop-round.invariant p t h ∙ ap (λ (k : ℕ). longest g k t) (let z : c.loop-round._round ≡ length ws = omega arith in z)

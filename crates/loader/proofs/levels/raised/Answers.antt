@@ -3,13 +3,13 @@ use Rattle.model.proofs.Range.{top-le, cond-le}
 use Rattle.loader.specs.View.{blank}
 use Rattle.loader.proofs.levels.raised.Goals as goal
 
-pub overflow-add-next : goal.overflow-add-next
-overflow-add-next c =
+pub overflow_add-next : goal.overflow_add-next
+overflow_add-next c =
     let ts = c.args.transfers.now in
     let low = c.args.low.now in
     omega (
       arith,
-      c.greatest-after.ensures,
+      c.greatest_after.ensures,
       top-le (length ts) (λ k. cond (eqb (get_or ts k blank).from c.loop-t.t) (get_or low (get_or ts k blank).to 0) 0) 64000
           (λ k h. cond-le (eqb (get_or ts k blank).from c.loop-t.t) _ 64000 (λ q. c.requires.small (get_or ts k blank).to (c.requires.inside k h))),
     )

@@ -11,27 +11,15 @@ only : (P : ℕ → Type 0) → P 0 → (t : ℕ) → t < 1 → P t
 only P p zero h = p
 only P p (suc t) h = absurd (omega arith)
 
-pub invariant-of-result : goal.invariant-of-result
+pub invariant_of-result : goal.invariant_of-result
 unfolding level
-invariant-of-result c = (
-  omega arith,
-  (
-    only _ (omega arith),
-    (
-      (λ k h. absurd (omega arith)),
-      (
-        (λ k h. absurd (omega arith)),
-        (
-          (λ k h e. absurd (omega arith)),
-          (
-            (λ i j s. omega (arith, s.1)),
-            (
-              (λ t x. no-chain _ refl x),
-              (only _ refl, tt),
-            ),
-          ),
-        ),
-      ),
-    ),
-  ),
-)
+invariant_of-result c = record {
+  sizes = omega arith;
+  worked = only _ (omega arith);
+  priced = λ k h. absurd (omega arith);
+  ends = λ k h. absurd (omega arith);
+  apart = λ k h e. absurd (omega arith);
+  pairs = λ i j s. omega (arith, s.1);
+  acyclic = λ t x. no-chain _ refl x;
+  bottom = only _ refl;
+}
