@@ -3,7 +3,6 @@ use Rattle.model.specs.Graph.{Graph}
 use Rattle.model.specs.Partial.{Partial}
 use Rattle.model.specs.NormalForm as M
 use Rattle.model.specs.NormalForm.{note, naming, normal_form}
-use Rattle.partial.specs.declared.names.Names.{Names}
 use Rattle.partial.specs.declared.placement.Placement.{Placement}
 use Rattle.partial.specs.Names.{the_names, named}
 use Rattle.partial.specs.Places.{placed_of, machine_of, start_of, partial_of}

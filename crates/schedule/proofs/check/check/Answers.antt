@@ -50,7 +50,7 @@ returns c =
     let a = c.lowest-row.ensures in
     let b = c.lowest-early.ensures in
     let d = c.lowest-overlap.ensures in
-    let v = c.greatest-finish.ensures in
+    let v = c.greatest_finish.ensures in
     let p = schedule_of rows in
     record {
       is = says-ok G rows e _ _ _ _ a (omega arith) b (omega arith) d (omega arith) v;

@@ -7,14 +7,14 @@ use Rattle.schedule.proofs.check.does_overlap.Goals as goal
 
 pub loop-u-preserved : goal.loop-u-preserved
 loop-u-preserved c =
-    let e : c.do-collide.result ≡ false = search rules in
-    below_more _ _ c.loop-u.invariant (sym c.do-collide.ensures ∙ e)
+    let e : c.do_collide.result ≡ false = search rules in
+    below_more _ _ c.loop-u.invariant (sym c.do_collide.ensures ∙ e)
 
-pub returns-then-do-collide : goal.returns-then-do-collide
-returns-then-do-collide c =
-    let e : c.do-collide.result ≡ true = search rules in
+pub returns-then-do_collide : goal.returns-then-do_collide
+returns-then-do_collide c =
+    let e : c.do_collide.result ≡ true = search rules in
     let g = the_graph c.args.g.now in
-    sym (any-on g.tasks c.loop-u.u (collide g (schedule_of c.args.rows.now) c.args.t) (omega arith) (sym c.do-collide.ensures ∙ e))
+    sym (any-on g.tasks c.loop-u.u (collide g (schedule_of c.args.rows.now) c.args.t) (omega arith) (sym c.do_collide.ensures ∙ e))
 
 pub returns : goal.returns
 returns c =

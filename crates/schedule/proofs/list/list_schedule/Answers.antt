@@ -8,10 +8,10 @@ use Rattle.schedule.proofs.Listing.{Facts, facts, facts-open, facts-complete, fa
 use Rattle.schedule.proofs.list.list_schedule.Goals as goal
 
 pub loop-k-init : goal.loop-k-init
-loop-k-init c = (c.empty-q.ensures ∙ sym (listed-none (the_graph c.args.g.now)), c.enlist-free.ensures.bag, c.enlist-free.ensures.room ∙ ap length c.start-waiting.ensures.slots)
+loop-k-init c = (c.empty-q.ensures ∙ sym (listed-none (the_graph c.args.g.now)), c.enlist_free.ensures.bag, c.enlist_free.ensures.room ∙ ap length c.start-waiting.ensures.slots)
 
-pub one-turn-q-requires : goal.one-turn-q-requires
-one-turn-q-requires c =
+pub one_turn-q-requires : goal.one_turn-q-requires
+one_turn-q-requires c =
     let G = the_graph c.args.g.now in
     let k = c.loop-k.-k in
     let v = c.loop-k.invariant in
@@ -24,7 +24,7 @@ pub loop-k-preserved : goal.loop-k-preserved
 loop-k-preserved c =
     let G = the_graph c.args.g.now in
     let v = c.loop-k.invariant in
-    let e = c.one-turn-q.ensures in
+    let e = c.one_turn-q.ensures in
     (e.is ∙ ap (λ (s : Partial). extend G s (next_task G s G.tasks)) v.0 ∙ sym (listed_more G c.loop-k.-k), e.waiting, e.room ∙ v.2)
 
 pub returns : goal.returns

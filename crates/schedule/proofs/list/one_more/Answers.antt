@@ -13,7 +13,7 @@ unreachable-requires c =
     let G = the_graph g in
     let s = the_partial c.args.q.now in
     let L = the_lawful g in
-    let t = c.next-task-t.result in
-    let m = c.earliest-machine-m.result in
-    let F : Free G s t = (c.next-task-t.ensures.law c.requires.1).free in
-    c.in-None.ensures.is (F, c.earliest-machine-m.ensures.law.low, omega (arith, start-reachable G L c.requires.0 t m F))
+    let t = c.next_task-t.result in
+    let m = c.earliest_machine-m.result in
+    let F : Free G s t = (c.next_task-t.ensures.law c.requires.1).free in
+    c.in-None.ensures.is (F, c.earliest_machine-m.ensures.law.low, omega (arith, start-reachable G L c.requires.0 t m F))

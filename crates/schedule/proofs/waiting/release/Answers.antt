@@ -22,7 +22,7 @@ enlist-requires c =
         arith,
         ap length c.loop-k.invariant.0,
         c.loop-k.invariant.1,
-        released-room G (the_partial c.args.q.now) c.args.t k G.count (ready_room c.args.waiting.now) (ready_bag c.args.waiting.now) h c.requires (sym c.if-does-release.ensures),
+        released-room G (the_partial c.args.q.now) c.args.t k G.count (ready_room c.args.waiting.now) (ready_bag c.args.waiting.now) h c.requires (sym c.if-does_release.ensures),
       );
     }
 

@@ -15,7 +15,7 @@ returns-in-Some c =
     let G = the_graph g in
     let s = the_partial c.args.self.now in
     let A = c.in-Some.ensures.is in
-    let e : the_partial c.normal-form.result ≡ normal_form G (append G s c.args.t c.args.m) = c.normal-form.ensures.is ∙ ap (normal_form G) A.1 in
+    let e : the_partial c.normal_form.result ≡ normal_form G (append G s c.args.t c.args.m) = c.normal_form.ensures.is ∙ ap (normal_form G) A.1 in
     record {
       is = (A.0, e);
       reachable = λ R. subst (Reachable G) (sym e) (child-reachable G (lawful-dag (the_lawful g)) s c.args.t c.args.m R A.0.0 A.0.1);

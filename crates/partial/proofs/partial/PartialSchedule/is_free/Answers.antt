@@ -11,5 +11,5 @@ returns-then-t-tasks c =
     let G = the_graph c.args.g.now in
     let s = the_partial c.args.self.now in
     let t = c.args.t in
-    let is : c.is-ready.result ≡ is_free G s t = c.is-ready.ensures ∙ sym (ap (λ (b : Bool). b && is_ready G s t) (lt-ltb t G.tasks (omega arith))) in
+    let is : c.is_ready.result ≡ is_free G s t = c.is_ready.ensures ∙ sym (ap (λ (b : Bool). b && is_ready G s t) (lt-ltb t G.tasks (omega arith))) in
     record { is = is; law = ((λ e. test-free G s t (sym is ∙ e)), (λ F. is ∙ free-test G s t F)) }

@@ -8,7 +8,7 @@ use Rattle.partial.proofs.partial.PartialSchedule.is_ready.Goals as goal
 pub loop-k-preserved : goal.loop-k-preserved
 loop-k-preserved c = search (rules, every_more)
 
-pub returns-then-not-is-fed : goal.returns-then-not-is-fed
-returns-then-not-is-fed c =
-    let e : c.is-fed.result ≡ false = search rules in
-    sym (ready-off (the_graph c.args.g.now) (the_partial c.args.self.now) c.args.t c.loop-k.k (omega arith) (sym c.is-fed.ensures ∙ e))
+pub returns-then-not-is_fed : goal.returns-then-not-is_fed
+returns-then-not-is_fed c =
+    let e : c.is_fed.result ≡ false = search rules in
+    sym (ready-off (the_graph c.args.g.now) (the_partial c.args.self.now) c.args.t c.loop-k.k (omega arith) (sym c.is_fed.ensures ∙ e))
