@@ -3,7 +3,7 @@ use loader::graph::TaskGraph;
 use partial::placement::Placement;
 use schedule::check::check as check_rows;
 use schedule::checked::checked_list_schedule;
-use schedule::refusal::check_refusal;
+use schedule::fault_refusal::check_refusal;
 use std::test::Fail;
 
 const fn row(machine: u8, start: u32) -> Placement {

@@ -1,6 +1,6 @@
+use loader::fault_refusal::refusal;
 use loader::graph::TaskGraph;
 use loader::load::load;
-use loader::refusal::refusal;
 use std::alloc::{AllocError, Global};
 
 // A run file that is written record by record.

@@ -1,7 +1,7 @@
 use crate::files::{EXAMPLE, RunFile, told};
+use loader::fault_refusal::refusal;
 use loader::graph::TaskGraph;
 use loader::load::load;
-use loader::refusal::refusal;
 use std::alloc::Global;
 use std::test::Fail;
 

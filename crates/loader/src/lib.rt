@@ -2,6 +2,7 @@
 
 mod bytes;
 mod cycles;
+pub mod fault_refusal;
 pub mod faults;
 pub mod graph;
 mod levels;
@@ -10,5 +11,4 @@ mod next;
 mod pairs;
 mod read;
 mod records;
-pub mod refusal;
 pub mod transfer;

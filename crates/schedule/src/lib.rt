@@ -3,7 +3,7 @@
 pub mod check;
 pub mod checked;
 pub mod fault;
+pub mod fault_refusal;
 pub mod list;
-pub mod refusal;
 pub mod rule;
 mod waiting;
