@@ -4,7 +4,6 @@ use partial::placement::Placement;
 use schedule::check::check as check_rows;
 use schedule::checked::checked_list_schedule;
 use schedule::fault_refusal::check_refusal;
-use std::test::Fail;
 
 const fn row(machine: u8, start: u32) -> Placement {
     Placement { machine, start }
@@ -58,7 +57,7 @@ fn one_row_for_each_task(rt: HostRuntime) {
 }
 
 #[test]
-fn list_schedule_of_the_example(rt: HostRuntime) -> Result<(), Fail> {
+fn list_schedule_of_the_example(rt: HostRuntime) {
     let graph = example();
     match checked_list_schedule(&graph) {
         Ok(list) => {
@@ -67,11 +66,7 @@ fn list_schedule_of_the_example(rt: HostRuntime) -> Result<(), Fail> {
             assert!(rt; list.rows[2] == row(1, 3));
             assert!(rt; list.rows[3] == row(0, 7));
             assert_eq!(rt; list.makespan, 9);
-            Ok(())
         }
-        Err(_) => {
-            assert!(rt; false);
-            Ok(())
-        },
+        Err(_) => assert!(rt; false, "the check passes the list schedule"),
     }
 }

@@ -11,7 +11,7 @@ fn at(machine: u8, start: u32) -> Option<Placement> {
 }
 
 #[test]
-fn only_free_tasks_are_appended(rt: HostRuntime) -> Result<(), Fail> {
+fn only_free_tasks_are_appended(rt: HostRuntime) {
     let graph = example();
     let empty = PartialSchedule::empty();
     assert!(rt;
@@ -21,39 +21,34 @@ fn only_free_tasks_are_appended(rt: HostRuntime) -> Result<(), Fail> {
     assert!(rt; empty.append(&graph, 4, 0).is_none(), "no such task");
     assert!(rt; empty.append(&graph, 0, 2).is_none(), "no such machine");
     let Some(one) = empty.append(&graph, 0, 1) else {
-        assert!(rt; false);
-        return Ok(())
+        return assert!(rt; false, "task 0 is free");
     };
     assert_eq!(rt; one.placement(0), at(1, 0));
     assert!(rt; one.append(&graph, 0, 0).is_none(), "it is placed already");
     let Some(two) = one.append(&graph, 2, 0) else {
-        assert!(rt; false);
-        return Ok(())
+        return assert!(rt; false, "task 2 is free");
     };
     assert_eq!(rt; two.placement(2), at(0, 3));
     assert_eq!(rt; two.machine_finish(&graph, 0), 6);
     assert_eq!(rt; two.data_ready(&graph, 1, 1), 2);
     assert_eq!(rt; two.data_ready(&graph, 1, 0), 3);
     assert_eq!(rt; two.start_on(&graph, 1, 0), 6);
-    Ok(())
 }
 
 #[test]
-fn large_starts_are_kept_or_refused(rt: HostRuntime) -> Result<(), Fail> {
+fn large_starts_are_kept_or_refused(rt: HostRuntime) {
     let graph = example();
     let mut places = [None; 32];
     places[0] = at(0, 4294967293);
     let late = PartialSchedule::of(places);
     let Some(same) = late.append(&graph, 1, 0) else {
-        assert!(rt; false);
-        return Ok(())
+        return assert!(rt; false, "32 bits hold the start");
     };
     assert_eq!(rt; same.placement(1), at(0, 4294967295));
     assert!(rt;
         late.append(&graph, 1, 1).is_none(),
         "32 bits do not hold the start"
     );
-    Ok(())
 }
 
 #[test]
