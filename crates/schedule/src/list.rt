@@ -12,7 +12,7 @@ use crate::waiting::{enlist_free, release};
 use loader::graph::TaskGraph;
 use partial::partial::PartialSchedule;
 use queue::ready::ReadyTask;
-use queue::ready::heap::ReadyHeap;
+use queue::ready::ready_heap::ReadyHeap;
 
 // Whether task t is free and comes before the best so far.
 fn takes_over(g: &TaskGraph, q: &PartialSchedule, best: usize, t: usize) -> bool

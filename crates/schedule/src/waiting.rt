@@ -10,7 +10,7 @@ ghost use Rattle.schedule.specs.Waiting.{ready_task, free_tasks, released};
 use loader::graph::TaskGraph;
 use partial::partial::PartialSchedule;
 use queue::ready::ReadyTask;
-use queue::ready::heap::ReadyHeap;
+use queue::ready::ready_heap::ReadyHeap;
 
 // Task t waits for its turn.
 fn enlist(g: &TaskGraph, t: usize, waiting: &mut ReadyHeap)
