@@ -1,7 +1,7 @@
-use Rattle.std.proofs.Common.{◌≡◌, ℕ, zero, suc, ◌<◌, ◌≤◌, Bool, true, false, cond, List, [], ◌∷◌, length, get_or, take, set, Some, sym, refl, ap, ◌∙◌, subst, ⊎_elim, le_of_suc-le-suc, not-suc-le-zero, arith, length-set, length-take-le, get_or-set_other, get_or-set_same}
+use Rattle.std.proofs.Common.{◌≡◌, ℕ, zero, suc, ◌<◌, ◌≤◌, Bool, true, false, cond, List, [], ◌∷◌, length, get_or, take, set, Some, sym, refl, ap, ◌∙◌, subst, le_of_suc-le-suc, not-suc-le-zero, arith, length-set, length-take-le, get_or-set_other, get_or-set_same}
 use Rattle.std.specs.List.Sorted.{IsPermutation}
-use Rattle.std.specs.List.{AllByRecursion as All}
-use Rattle.std.proofs.Permutation.{which, as_core}
+use Rattle.std.specs.List.{AllByRecursion}
+use native.Mathlib.Decide.{ℕ_discrete}
 use Rattle.std.proofs.ByRecursion.{All-weaker, All-from_get_or, All-get_or, all_shuffled}
 use Rattle.std.proofs.lemmas.List.Edits.{swap_is}
 use Rattle.std.proofs.lemmas.List.Sorted.{IsPermutation-refl, IsPermutation-trans, IsPermutation-cons, IsPermutation-swap, IsPermutation-keeps}
@@ -99,16 +99,16 @@ module _ {X : Type 0} (before : X → X → Bool) (o : Total before) where
       let a = get_or l i d in
       let b = get_or l j d in
       let w = set l i b in
-      let is : get_or w j d ≡ b = ⊎_elim (λ e. ap (λ (m : ℕ). get_or w m d) (sym e) ∙ get_or-set_same l i b d p) (λ n. get_or-set_other l i j b d (λ e. n (sym e))) (which i j) in
+      let is : get_or w j d ≡ b = elim (ℕ_discrete i j) [ yes e ↦ ap (λ (m : ℕ). get_or w m d) (sym e) ∙ get_or-set_same l i b d p | no n ↦ get_or-set_other l i j b d (λ e. n (sym e)) ] in
       insert_inj b (sorted before (set w j a)) (sorted before l)
       (ap (λ z. insert before z (sorted before (set w j a))) (sym is) ∙ sorted-set w j a d (omega (arith, length-set l i b)) ∙ sorted-set l i b d p)
 
   -- the order in which entries come does not matter to the bag
   pub sorted-shuffled : (xs ys : List X) → IsPermutation xs ys → sorted before ys ≡ sorted before xs
   sorted-shuffled xs ys s = IsPermutation-keeps xs (λ l. sorted before l ≡ sorted before xs) refl
-      (λ l i j p q h. let d = head l (omega arith) in ap (sorted before) (sym (swap_is l i j d p q ∙ as_core l i j)) ∙ sorted-swap l i j d p q ∙ h) ys s
+      (λ l i j p q h. let d = head l (omega arith) in ap (sorted before) (sym (swap_is l i j d p q)) ∙ sorted-swap l i j d p q ∙ h) ys s
 
-  pub front : (a : X) (l : List X) → All (λ y. before y a ≡ false) l → insert before a l ≡ a ∷ l
+  pub front : (a : X) (l : List X) → AllByRecursion (λ y. before y a ≡ false) l → insert before a l ≡ a ∷ l
   front a [] h = refl
   front a (x ∷ xs) h = let p = h.0 in simp p
 
@@ -117,7 +117,7 @@ module _ {X : Type 0} (before : X → X → Bool) (o : Total before) where
   sorted-shuffles (x ∷ xs) = IsPermutation-trans (x ∷ xs) (x ∷ sorted before xs) (sorted before (x ∷ xs)) (IsPermutation-cons x xs (sorted before xs) (sorted-shuffles xs)) (insert-adds before x (sorted before xs))
 
   -- an entry that none comes before is the first of the bag
-  pub sorted-least : (xs ys : List X) (x : X) → IsPermutation xs (x ∷ ys) → All (λ y. before y x ≡ false) xs → sorted before xs ≡ x ∷ sorted before ys
+  pub sorted-least : (xs ys : List X) (x : X) → IsPermutation xs (x ∷ ys) → AllByRecursion (λ y. before y x ≡ false) xs → sorted before xs ≡ x ∷ sorted before ys
   sorted-least xs ys x s h =
       let a = all_shuffled (λ y. before y x ≡ false) xs (x ∷ ys) s h in
       sym (sorted-shuffled xs (x ∷ ys) s) ∙ front x (sorted before ys) (all_shuffled (λ y. before y x ≡ false) ys (sorted before ys) (sorted-shuffles ys) a.1)
@@ -144,9 +144,9 @@ module _ {X : Type 0} (before : X → X → Bool) (o : Total before) where
   rest-in-order (x ∷ xs) h = h.1
 
   -- none comes before the first
-  pub first-least : (x : X) (l : List X) → first l ≡ Some x → InOrder before l → All (λ y. before y x ≡ false) l
+  pub first-least : (x : X) (l : List X) → first l ≡ Some x → InOrder before l → AllByRecursion (λ y. before y x ≡ false) l
   first-least x [] e h = tt
-  first-least x (y ∷ ys) e h = let u : y ≡ x = cc in subst (λ z. All (λ w. before w z ≡ false) (y ∷ ys)) u (irreflexive y, h.0)
+  first-least x (y ∷ ys) e h = let u : y ≡ x = cc in subst (λ z. AllByRecursion (λ w. before w z ≡ false) (y ∷ ys)) u (irreflexive y, h.0)
 
   -- in order, place by place
   abbrev ByPlaces : List X → X → Type 0

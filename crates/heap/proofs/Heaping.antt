@@ -1,6 +1,6 @@
 use Rattle.std.proofs.Common.{◌≡◌, ℕ, suc, ◌+◌, ◌-◌, ◌/◌, ◌<◌, ◌≤◌, Bool, false, List, [], ◌∷◌, ◌++◌, length, get_or, take, drop, set, Some, sym, ap, ◌∙◌, subst, add-one, arith, length-append, take-append-drop, length-take-le, get_or-drop, drop-cons, get_or-set_other, get_or-take, take-suc, drop-drop, take-suc-set}
 use Rattle.std.specs.List.Sorted.{IsPermutation}
-use Rattle.std.specs.List.{AllByRecursion as All}
+use Rattle.std.specs.List.{AllByRecursion}
 use Rattle.std.proofs.ByRecursion.{All-from_get_or}
 use Rattle.std.proofs.lemmas.List.Sorted.{IsPermutation-refl, IsPermutation-sym, IsPermutation-trans, IsPermutation-cons, IsPermutation-to_front, length_permutation}
 use Rattle.heap.specs.Order.{Total}
@@ -55,7 +55,7 @@ module _ {X : Type 0} where
       (IsPermutation-trans (take n ys) (get_or xs 0 d ∷ take m ys) (get_or xs 0 d ∷ take m zs) front (IsPermutation-cons (get_or xs 0 d) (take m ys) (take m zs) a.entries))
 
 module _ {X : Type 0} (before : X → X → Bool) (o : Total before) where
-  none_before : (xs : List X) (n : ℕ) (d : X) → n ≤ length xs → HeapOrder before xs n → All (λ y. before y (get_or xs 0 d) ≡ false) (take n xs)
+  none_before : (xs : List X) (n : ℕ) (d : X) → n ≤ length xs → HeapOrder before xs n → AllByRecursion (λ y. before y (get_or xs 0 d) ≡ false) (take n xs)
   none_before xs n d le h =
       let len = length-take-le n xs le in
       All-from_get_or (λ y. before y (get_or xs 0 d) ≡ false) (take n xs) d

@@ -1,5 +1,5 @@
 use Rattle.std.specs.Prelude.{◌≡◌, Bool, false, cond, List, [], ◌∷◌, Some, None, Option}
-use Rattle.std.specs.List.{AllByRecursion as All}
+use Rattle.std.specs.List.{AllByRecursion}
 
 -- A bag under a total order is told as the list of its entries in order.
 
@@ -26,4 +26,4 @@ rest (x ∷ xs) = xs
 -- in order: none comes before one that stands earlier
 abbrev pub InOrder : {X : Type 0} → (X → X → Bool) → List X → Type 0
 InOrder before [] = Unit {0}
-InOrder before (x ∷ xs) = All (λ y. before y x ≡ false) xs × InOrder before xs
+InOrder before (x ∷ xs) = AllByRecursion (λ y. before y x ≡ false) xs × InOrder before xs

@@ -6,7 +6,7 @@ use crate::order::TotalOrder;
 // Whether the entry of slot a comes before that of slot b.
 fn is_before<T: TotalOrder>(s: &[T], a: usize, b: usize) -> bool
     requires { (a < length s.now) × (b < length s.now) }
-    ensures { (d : T) → result ≡ before (slice_index_or s.now a d) (slice_index_or s.now b d) }
+    ensures { (d : T) → result ≡ T.before (slice_index_or s.now a d) (slice_index_or s.now b d) }
 {
     s[a].comes_before(&s[b])
 }
@@ -14,8 +14,8 @@ fn is_before<T: TotalOrder>(s: &[T], a: usize, b: usize) -> bool
 // Moves the entry of slot `last` up to its place: the slots below it are a heap, and then it is one of them.
 pub(crate) fn sift_up<T: TotalOrder>(s: &mut [T], last: usize)
     requires within { last < length s.old }
-    requires heap { HeapOrder before s.old last }
-    ensures heap { HeapOrder before s.new (last + 1) }
+    requires heap { HeapOrder T.before s.old last }
+    ensures heap { HeapOrder T.before s.new (last + 1) }
     ensures slots { Rearranged (last + 1) s.old s.new }
 {
     let mut at = last;
@@ -37,7 +37,7 @@ fn left_child(j: usize) -> usize
 fn least_child<T: TotalOrder>(s: &[T], j: usize, n: usize) -> usize
     requires within { (2 * j + 1 < n) × (n ≤ length s.now) }
     ensures child { (1 ≤ result) × (result < n) × (parent result ≡ j) }
-    ensures least { LeastChild before s.now j result n }
+    ensures least { LeastChild T.before s.now j result n }
 {
     let left = left_child(j);
     if left + 1 < n && is_before(s, left + 1, left) {
@@ -50,8 +50,8 @@ fn least_child<T: TotalOrder>(s: &[T], j: usize, n: usize) -> usize
 // Moves the entry of slot 0 down to its place: but for slot 0 the first n slots are a heap, and then they all are.
 pub(crate) fn sift_down<T: TotalOrder>(s: &mut [T], n: usize)
     requires within { n ≤ length s.old }
-    requires heap { BelowTop before s.old n }
-    ensures heap { HeapOrder before s.new n }
+    requires heap { BelowTop T.before s.old n }
+    ensures heap { HeapOrder T.before s.new n }
     ensures slots { Rearranged n s.old s.new }
 {
     let mut at = 0;

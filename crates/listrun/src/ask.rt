@@ -7,9 +7,9 @@ use queue::open_list::OpenList;
 
 // Asks a list.
 fn ask<L: OpenList>(l: &mut L, request: Request) -> Answer
-    ensures is { result ≡ answered request (bag l.old) (limit l.old) }
-    ensures after { bag l.new ≡ bag_after request (bag l.old) (limit l.old) }
-    ensures same_limit { limit l.new ≡ limit l.old }
+    ensures is { result ≡ answered request (L.bag l.old) (L.limit l.old) }
+    ensures after { L.bag l.new ≡ bag_after request (L.bag l.old) (L.limit l.old) }
+    ensures same_limit { L.limit l.new ≡ L.limit l.old }
 {
     match request {
         Request::Put(e) => {
@@ -36,9 +36,9 @@ pub fn ask_both<A: OpenList, B: OpenList>(
     b: &mut B,
     request: Request,
 ) -> (Answer, Answer)
-    ensures alike { A.OpenList.bag a.old ≡ B.OpenList.bag b.old → A.OpenList.limit a.old ≡ B.OpenList.limit b.old → result.0 ≡ result.1 }
-    ensures stays { A.OpenList.bag a.old ≡ B.OpenList.bag b.old → A.OpenList.limit a.old ≡ B.OpenList.limit b.old → A.OpenList.bag a.new ≡ B.OpenList.bag b.new }
-    ensures limits { (A.OpenList.limit a.new ≡ A.OpenList.limit a.old) × (B.OpenList.limit b.new ≡ B.OpenList.limit b.old) }
+    ensures alike { A.bag a.old ≡ B.bag b.old → A.limit a.old ≡ B.limit b.old → result.0 ≡ result.1 }
+    ensures stays { A.bag a.old ≡ B.bag b.old → A.limit a.old ≡ B.limit b.old → A.bag a.new ≡ B.bag b.new }
+    ensures limits { (A.limit a.new ≡ A.limit a.old) × (B.limit b.new ≡ B.limit b.old) }
 {
     let x = ask(a, request);
     let y = ask(b, request);

@@ -6,7 +6,7 @@ use Rattle.heap.specs.Meaning.{slots_of}
 use Rattle.queue.specs.Entries.{entry_before}
 use Rattle.queue.specs.ReadyTasks.{ready_before}
 use Rattle.queue.specs.declared.entry_heap.EntryHeap.{EntryHeap}
-use Rattle.queue.specs.declared.ready.heap.ReadyHeap.{ReadyHeap}
+use Rattle.queue.specs.declared.ready.ready_heap.ReadyHeap.{ReadyHeap}
 
 -- A fact in a type has one proof, so two values are equal where their data are.
 

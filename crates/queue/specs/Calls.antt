@@ -1,7 +1,7 @@
-use Rattle.std.specs.Prelude.{◌≡◌, Bool, true, false, cond, List, [], ◌∷◌, take, Some, Option, refl}
+use Rattle.std.specs.Prelude.{◌≡◌, Bool, true, false, cond, List, [], ◌∷◌, Some, Option, refl}
 use Rattle.std.proofs.Common.{sym, ap, subst, ◌∙◌, arith}
 use Rattle.std.specs.List.Sorted.{IsPermutation}
-use Rattle.std.specs.List.{AllByRecursion as All}
+use Rattle.std.specs.List.{AllByRecursion}
 use Rattle.std.proofs.ByRecursion.{All-weaker}
 use Rattle.std.proofs.lemmas.List.Sorted.{IsPermutation-refl}
 use Rattle.heap.specs.Order.{Total}
@@ -15,7 +15,7 @@ module _ {X : Type 0} (before : X → X → Bool) where
 
 -- what the equations of look and take mean, for an order whose test says what `Leads` says in words
 module _ {X : Type 0} (before : X → X → Bool) (o : Total before) (Leads : X → X → Type 0) (words : (x y : X) → before y x ≡ false → Leads x y) where
-  leading : (x : X) (b : List X) → first b ≡ Some x → InOrder before b → All (Leads x) b
+  leading : (x : X) (b : List X) → first b ≡ Some x → InOrder before b → AllByRecursion (Leads x) b
   leading x b e h = All-weaker (λ y. before y x ≡ false) (Leads x) (λ y p. words x y p) b (first-least before o x b e h)
 
   pub shows : (b : List X) (r : Option X) → r ≡ first b → InOrder before b → Shows Leads b r

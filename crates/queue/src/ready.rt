@@ -1,5 +1,5 @@
-pub mod heap;
 pub mod order;
+pub mod ready_heap;
 
 // A task that is ready to be placed, with its bottom level.
 #[derive(Clone, Copy)]

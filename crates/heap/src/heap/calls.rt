@@ -10,10 +10,10 @@ use crate::sift::{sift_down, sift_up};
 impl<T: TotalOrder> Heap<'_, T> {
     // Adds an entry; false, and nothing is changed, where all slots are in use.
     pub fn push(&mut self, e: T) -> bool
-        requires { Heaped before self.old }
+        requires { Heaped T.before self.old }
         ensures is { result ≡ nat_lt self.old.count (length (slots_of self.old)) }
-        ensures bag { bag_of before self.new ≡ (if result then insert before e (bag_of before self.old) else bag_of before self.old) }
-        ensures heaped { Heaped before self.new }
+        ensures bag { bag_of T.before self.new ≡ (if result then insert T.before e (bag_of T.before self.old) else bag_of T.before self.old) }
+        ensures heaped { Heaped T.before self.new }
         ensures slots { result ≡ true → Rearranged (self.old.count + 1) (slice_set (slots_of self.old) self.old.count e) (slots_of self.new) }
         ensures room { length (slots_of self.new) ≡ length (slots_of self.old) }
         ensures refused { result ≡ false → self.new ≡ self.old }
@@ -38,8 +38,8 @@ impl<T: TotalOrder> Heap<'_, T> {
 
     // The first entry in order.
     pub fn peek(&self) -> Option<T>
-        requires { Heaped before self.now }
-        ensures { result ≡ first (bag_of before self.now) }
+        requires { Heaped T.before self.now }
+        ensures { result ≡ first (bag_of T.before self.now) }
     {
         if self.is_empty() {
             return None;
@@ -49,10 +49,10 @@ impl<T: TotalOrder> Heap<'_, T> {
 
     // Takes the first entry in order; None, and nothing is changed, where there is none.
     pub fn pop(&mut self) -> Option<T>
-        requires { Heaped before self.old }
-        ensures is { result ≡ first (bag_of before self.old) }
-        ensures bag { bag_of before self.new ≡ rest (bag_of before self.old) }
-        ensures heaped { Heaped before self.new }
+        requires { Heaped T.before self.old }
+        ensures is { result ≡ first (bag_of T.before self.old) }
+        ensures bag { bag_of T.before self.new ≡ rest (bag_of T.before self.old) }
+        ensures heaped { Heaped T.before self.new }
         ensures slots { Rearranged self.old.count (slots_of self.old) (slots_of self.new) }
         ensures room { length (slots_of self.new) ≡ length (slots_of self.old) }
         ensures empty { result ≡ None → self.new ≡ self.old }

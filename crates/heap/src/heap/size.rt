@@ -9,7 +9,7 @@ impl<T: TotalOrder> Heap<'_, T> {
     pub fn start(slots: &mut [T]) -> Heap<'_, T>
         ensures slots { slots_of result ≡ slots.old }
         ensures empty { result.count ≡ 0 }
-        ensures heaped { Heaped before result }
+        ensures heaped { Heaped T.before result }
     {
         Heap { slots, count: 0 }
     }

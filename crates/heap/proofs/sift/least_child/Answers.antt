@@ -2,15 +2,15 @@ use Rattle.std.proofs.Common.{sym, ◌∙◌, arith}
 use Rattle.heap.specs.Order.{Total}
 use Rattle.heap.proofs.Sifting.{left-least, right-least}
 use Rattle.heap.proofs.sift.least_child.Goals as goal
-use Rattle.heap.proofs.sift.least_child.Goals.{else-left-n-via-then-left-n+else-is-before, else-left-n-via-else-left-n}
+use Rattle.heap.proofs.sift.least_child.Goals.{else-left-n-via-then-left-n+else-is_before, else-left-n-via-else-left-n}
 
-pub returns-then-is-before : goal.returns-then-is-before
-returns-then-is-before g c =
+pub returns-then-is_before : goal.returns-then-is_before
+returns-then-is_before g c =
     let o : Total g.T.TotalOrder.before = record { asymmetric = g.met.T.TotalOrder.asymmetric; transitive = g.met.T.TotalOrder.transitive; tied = g.met.T.TotalOrder.tied } in
     let a = c.args in
     record {
       child = (omega arith, omega arith, omega arith);
-      least = right-least g.T.TotalOrder.before o a.s.now a.j c.left-child-left.result a.n c.left-child-left.ensures (λ d. g.met.T.TotalOrder.asymmetric _ _ (sym (c.is-before.ensures d) ∙ c.if-is-before.true));
+      least = right-least g.T.TotalOrder.before o a.s.now a.j c.left_child-left.result a.n c.left_child-left.ensures (λ d. g.met.T.TotalOrder.asymmetric _ _ (sym (c.is_before.ensures d) ∙ c.if-is_before.true));
     }
 
 pub returns-else-left-n : goal.returns-else-left-n
@@ -19,8 +19,8 @@ returns-else-left-n g c =
     let a = c.args in
     record {
       child = (omega arith, omega arith, omega arith);
-      least = left-least g.T.TotalOrder.before o a.s.now a.j c.left-child-left.result a.n c.left-child-left.ensures (λ h d. elim c.else-left-n.branch [
-        | else-left-n-via-then-left-n+else-is-before w ↦ sym (w.is-before.ensures d) ∙ w.if-is-before.false
+      least = left-least g.T.TotalOrder.before o a.s.now a.j c.left_child-left.result a.n c.left_child-left.ensures (λ h d. elim c.else-left-n.branch [
+        | else-left-n-via-then-left-n+else-is_before w ↦ sym (w.is_before.ensures d) ∙ w.if-is_before.false
         | else-left-n-via-else-left-n w ↦ absurd (omega (arith, w.if-left-n.false))
       ]);
     }

@@ -15,12 +15,12 @@ loop-at-preserved g c =
     let l = c.loop-at in
     let zs = c.swap.new.self in (
       omega arith,
-      rises g.T.TotalOrder.before o l.s zs l.at (c.args.last + 1) c.swap.ensures.by_index (λ d. sym (c.if-is-before.ensures d)) (omega arith) (omega arith) l.invariant.1,
+      rises g.T.TotalOrder.before o l.s zs l.at (c.args.last + 1) c.swap.ensures.by_index (λ d. sym (c.if-is_before.ensures d)) (omega arith) (omega arith) l.invariant.1,
       arranged-more (c.args.last + 1) (parent l.at) l.at c.args.s.now l.s zs (omega arith) (omega arith) (omega arith) c.swap.ensures.by_index l.invariant.2,
     )
 
-pub returns-else-is-before : goal.returns-else-is-before
-returns-else-is-before g c =
+pub returns-else-is_before : goal.returns-else-is_before
+returns-else-is_before g c =
     let o : Total g.T.TotalOrder.before = record { asymmetric = g.met.T.TotalOrder.asymmetric; transitive = g.met.T.TotalOrder.transitive; tied = g.met.T.TotalOrder.tied } in
     let l = c.loop-at in
-    record { heap = risen g.T.TotalOrder.before o l.s l.at (c.args.last + 1) (λ d. sym (c.if-is-before.ensures d)) l.invariant.1; slots = l.invariant.2 }
+    record { heap = risen g.T.TotalOrder.before o l.s l.at (c.args.last + 1) (λ d. sym (c.if-is_before.ensures d)) l.invariant.1; slots = l.invariant.2 }

@@ -23,5 +23,5 @@ loop-steps-preserved c =
       ap (λ (d : Cell). d.next) cell ∙ ap (after xs) l.invariant.1 ∙ sym (onward-more xs l.steps s.head) ∙ ap (λ (k : ℕ). onward xs k s.head) (sym (add-one l.steps)),
       λ z. l.invariant.1 ∙ ap (λ (k : ℕ). onward xs k s.head) (sym e),
       below_more (λ (i : ℕ). entry_before (entry_at xs (onward xs i s.head)) c.args.e ≡ true) l.steps l.invariant.3
-          (ap (λ (x : ℕ). entry_before (entry_at xs x) c.args.e) (sym l.invariant.1) ∙ ap (λ (d : Cell). entry_before d.entry c.args.e) (sym cell) ∙ sym c.if-not-comes-before.ensures),
+          (ap (λ (x : ℕ). entry_before (entry_at xs x) c.args.e) (sym l.invariant.1) ∙ ap (λ (d : Cell). entry_before d.entry c.args.e) (sym cell) ∙ sym c.if-not-comes_before.ensures),
     )

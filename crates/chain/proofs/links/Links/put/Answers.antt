@@ -3,8 +3,8 @@ use Rattle.queue.specs.Entries.{entry_before}
 use Rattle.chain.specs.Cells.{entry_at, onward}
 use Rattle.chain.proofs.links.Links.put.Goals as goal
 
-pub put-first-requires : goal.put-first-requires
-put-first-requires c =
+pub put_first-requires : goal.put_first-requires
+put_first-requires c =
     let l = c.args.self.now in
     let xs = l.cells.now in
     let p = c.place-at.ensures in

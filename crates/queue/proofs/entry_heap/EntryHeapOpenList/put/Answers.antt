@@ -13,7 +13,7 @@ returns c =
     record {
       is = p.is ∙ ap (λ (n : ℕ). ltb n (length (slots_of h))) (sym (length-bag entry_before (slots_of h) h.count c.args.self.now.within));
       after = p.bag;
-      same-limit = p.room;
+      same_limit = p.room;
       adds = adds entry_before c.args.e (bag_of entry_before h) (bag_of entry_before c.push.new.self) c.push.result p.bag;
       refused = λ e. same_entries _ c.args.self.now (p.refused e);
     }

@@ -12,7 +12,7 @@ returns c =
     record {
       is = p.is;
       after = p.bag;
-      same-limit = p.room;
+      same_limit = p.room;
       takes = takes (bag_of entry_before h) (bag_of entry_before c.pop.new.self) c.pop.result p.is p.bag (slots-ordered (slots_of h) h.count);
       empty = λ e. same_entries _ c.args.self.now (p.empty e);
     }

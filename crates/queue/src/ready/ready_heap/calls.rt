@@ -7,7 +7,7 @@ ghost use Rattle.queue.specs.ReadyTasks.{ready_before, ReadyLeads};
 ghost use Rattle.queue.specs.ReadyBags.{ready_bag, ready_room};
 
 use crate::ready::ReadyTask;
-use crate::ready::heap::ReadyHeap;
+use crate::ready::ready_heap::ReadyHeap;
 use heap::heap::Heap;
 
 impl ReadyHeap<'_> {

@@ -4,7 +4,7 @@ use Rattle.heap.proofs.Bags.{length-bag}
 use Rattle.queue.specs.ReadyTasks.{ready_before}
 use Rattle.queue.specs.Calls.{adds}
 use Rattle.queue.proofs.Unchanged.{same-tasks}
-use Rattle.queue.proofs.ready.heap.ReadyHeap.put.Goals as goal
+use Rattle.queue.proofs.ready.ready_heap.ReadyHeap.put.Goals as goal
 
 pub returns : goal.returns
 returns c =
@@ -13,7 +13,7 @@ returns c =
     record {
       is = p.is ∙ ap (λ (n : ℕ). ltb n (length (slots_of h))) (sym (length-bag ready_before (slots_of h) h.count c.args.self.now.within));
       after = p.bag;
-      same-limit = p.room;
+      same_limit = p.room;
       adds = adds ready_before c.args.t (bag_of ready_before h) (bag_of ready_before c.push.new.self) c.push.result p.bag;
       refused = λ e. same-tasks _ c.args.self.now (p.refused e);
     }
