@@ -1,4 +1,4 @@
-use Rattle.std.proofs.Common.{◌-◌, List, take, sym, ap, ◌∙◌, subst}
+use Rattle.std.proofs.Common.{List, take, sym, ap, ◌∙◌, subst}
 use Rattle.partial.specs.declared.placement.Placement.{Placement}
 use Rattle.model.specs.Schedule.{makespan}
 use Rattle.model.specs.Partial.{Partial, whole}

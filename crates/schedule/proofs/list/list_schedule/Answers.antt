@@ -13,7 +13,7 @@ loop-k-init c = (c.empty-q.ensures ∙ sym (listed-none (the_graph c.args.g.now)
 pub one_turn-q-requires : goal.one_turn-q-requires
 one_turn-q-requires c =
     let G = the_graph c.args.g.now in
-    let k = c.loop-k.-k in
+    let k = c.loop-k._k in
     let v = c.loop-k.invariant in
     let s = the_partial c.loop-k.q in
     let L = the_lawful c.args.g.now in
@@ -25,7 +25,7 @@ loop-k-preserved c =
     let G = the_graph c.args.g.now in
     let v = c.loop-k.invariant in
     let e = c.one_turn-q.ensures in
-    (e.is ∙ ap (λ (s : Partial). extend G s (next_task G s G.tasks)) v.0 ∙ sym (listed_more G c.loop-k.-k), e.waiting, e.room ∙ v.2)
+    (e.is ∙ ap (λ (s : Partial). extend G s (next_task G s G.tasks)) v.0 ∙ sym (listed_more G c.loop-k._k), e.waiting, e.room ∙ v.2)
 
 pub returns : goal.returns
 returns c =
@@ -33,6 +33,6 @@ returns c =
     let G = the_graph g in
     let L = the_lawful g in
     let s = the_partial c.loop-k.q in
-    let e : s ≡ listed G G.tasks = c.loop-k.invariant.0 ∙ ap (listed G) (let z : c.loop-k.-k ≡ G.tasks = omega arith in z) in
+    let e : s ≡ listed G G.tasks = c.loop-k.invariant.0 ∙ ap (listed G) (let z : c.loop-k._k ≡ G.tasks = omega arith in z) in
     let F : Facts G G.tasks s = subst (Facts G G.tasks) (sym e) (facts G L G.tasks (omega arith)) in
     record { is = e; rule = F.rule; complete = facts-complete G L s F; feasible = facts-feasible G L s F; reachable = F.reachable }

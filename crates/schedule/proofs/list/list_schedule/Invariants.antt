@@ -7,4 +7,4 @@ use Rattle.schedule.specs.Waiting.{free_tasks}
 use Rattle.schedule.proofs.list.list_schedule.Given as goal
 
 abbrev pub invariant-loop-k : goal.invariant-loop-k
-invariant-loop-k l = (the_partial l.q ≡ listed (the_graph l.g) l.-k) × (ready_bag l.waiting ≡ free_tasks (the_graph l.g) (the_partial l.q)) × (ready_room l.waiting ≡ 32)
+invariant-loop-k l = (the_partial l.q ≡ listed (the_graph l.g) l._k) × (ready_bag l.waiting ≡ free_tasks (the_graph l.g) (the_partial l.q)) × (ready_room l.waiting ≡ 32)

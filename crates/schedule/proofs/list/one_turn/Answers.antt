@@ -37,7 +37,7 @@ release-requires c =
     let t = c.in-Some.next.task in
     let turn = taken G (the_lawful g) s (ready_bag c.args.waiting.now) (ready_bag c.take.new.self) c.in-Some.next c.requires.state.1 c.requires.waiting.0 (sym c.in-Some.is ∙ c.take.ensures.is) c.take.ensures.after in
     let all = ap (released G q t G.count) turn.others ∙ releases-all G (the_lawful g) s q t turn.free (child-placed G s q t c.earliest_machine-machine.result c.in-Some-child.ensures.is.1) in
-    omega (arith, ap length all, where-length G (is_free G q) G.tasks, c.requires.waiting.1, c.take.ensures.same-limit)
+    omega (arith, ap length all, where-length G (is_free G q) G.tasks, c.requires.waiting.1, c.take.ensures.same_limit)
 
 pub returns : goal.returns
 returns c =
@@ -52,5 +52,5 @@ returns c =
     record {
       is = is ∙ ap (λ (k : ℕ). normal_form G (append G s t k)) c.earliest_machine-machine.ensures.is ∙ ap (λ (u : ℕ). normal_form G (append G s u (earliest G s u G.machines))) turn.next;
       waiting = c.release.ensures.bag ∙ ap (released G q t G.count) turn.others ∙ releases-all G (the_lawful g) s q t turn.free (child-placed G s q t m is);
-      room = c.release.ensures.room ∙ c.take.ensures.same-limit;
+      room = c.release.ensures.room ∙ c.take.ensures.same_limit;
     }
