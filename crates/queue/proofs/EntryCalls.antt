@@ -5,7 +5,7 @@ use Rattle.queue.specs.Bags.{Shows, Takes}
 use Rattle.queue.specs.Entries.{entry_before, EntryLeads}
 use Rattle.queue.specs.EntryBags.{entries-ordered}
 use Rattle.queue.specs.declared.entry.Entry.{Entry}
-use Rattle.queue.specs.Calls as calls
+use Rattle.queue.proofs.Calls as calls
 
 in_words : (x y : Entry) → entry_before y x ≡ false → EntryLeads x y
 in_words x y h = not-below y.bound x.node x.bound y.node h

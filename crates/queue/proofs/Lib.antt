@@ -1,2 +1,4 @@
+pub mod Calls
 pub mod EntryCalls
+pub mod ReadyCalls
 mod Unchanged

@@ -3,5 +3,4 @@ pub mod Entries
 pub mod EntryBags
 pub mod ReadyTasks
 pub mod ReadyBags
-pub mod ReadyCalls
-pub mod Calls
+pub mod ReadyOrder

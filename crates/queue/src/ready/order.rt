@@ -1,5 +1,5 @@
 ghost use Rattle.queue.specs.ReadyTasks.{ready_before};
-ghost use Rattle.queue.specs.ReadyCalls.{tasks-ordered};
+ghost use Rattle.queue.specs.ReadyOrder.{tasks-ordered};
 
 use crate::ready::ReadyTask;
 use heap::order::TotalOrder;

@@ -1,4 +1,4 @@
-use Rattle.std.proofs.Common.{sym, ◌∙◌, arith}
+use Rattle.std.proofs.Common.{◌+◌, get_or, arith}
 use Rattle.heap.specs.Order.{Total}
 use Rattle.heap.proofs.Sifting.{left-least, right-least}
 use Rattle.heap.proofs.sift.least_child.Goals as goal
@@ -10,7 +10,7 @@ returns-then-is_before g c =
     let a = c.args in
     record {
       child = (omega arith, omega arith, omega arith);
-      least = right-least g.T.TotalOrder.before o a.s.now a.j c.left_child-left.result a.n c.left_child-left.ensures (λ d. g.met.T.TotalOrder.asymmetric _ _ (sym (c.is_before.ensures d) ∙ c.if-is_before.true));
+      least = right-least g.T.TotalOrder.before o a.s.now a.j c.left_child-left.result a.n c.left_child-left.ensures (λ d. o.asymmetric (get_or a.s.now (c.left_child-left.result + 1) d) (get_or a.s.now c.left_child-left.result d) (cc (c.is_before.ensures d)));
     }
 
 pub returns-else-left-n : goal.returns-else-left-n
@@ -20,7 +20,7 @@ returns-else-left-n g c =
     record {
       child = (omega arith, omega arith, omega arith);
       least = left-least g.T.TotalOrder.before o a.s.now a.j c.left_child-left.result a.n c.left_child-left.ensures (λ h d. elim c.else-left-n.branch [
-        | else-left-n-via-then-left-n+else-is_before w ↦ sym (w.is_before.ensures d) ∙ w.if-is_before.false
+        | else-left-n-via-then-left-n+else-is_before w ↦ cc (w.is_before.ensures d)
         | else-left-n-via-else-left-n w ↦ absurd (omega (arith, w.if-left-n.false))
       ]);
     }

@@ -1,4 +1,4 @@
-use Rattle.std.proofs.Common.{◌+◌, sym, arith}
+use Rattle.std.proofs.Common.{◌+◌, arith}
 use Rattle.heap.specs.Order.{Total}
 use Rattle.heap.specs.Slots.{parent}
 use Rattle.heap.proofs.Sifting.{rises, risen, rising, arranged-none, arranged-more}
@@ -15,7 +15,7 @@ loop-at-preserved g c =
     let l = c.loop-at in
     let zs = c.swap.new.self in (
       omega arith,
-      rises g.T.TotalOrder.before o l.s zs l.at (c.args.last + 1) c.swap.ensures.by_index (λ d. sym (c.if-is_before.ensures d)) (omega arith) (omega arith) l.invariant.1,
+      rises g.T.TotalOrder.before o l.s zs l.at (c.args.last + 1) c.swap.ensures.by_index (λ d. cc (c.if-is_before.ensures d)) (omega arith) (omega arith) l.invariant.1,
       arranged-more (c.args.last + 1) (parent l.at) l.at c.args.s.now l.s zs (omega arith) (omega arith) (omega arith) c.swap.ensures.by_index l.invariant.2,
     )
 
@@ -23,4 +23,4 @@ pub returns-else-is_before : goal.returns-else-is_before
 returns-else-is_before g c =
     let o : Total g.T.TotalOrder.before = record { asymmetric = g.met.T.TotalOrder.asymmetric; transitive = g.met.T.TotalOrder.transitive; tied = g.met.T.TotalOrder.tied } in
     let l = c.loop-at in
-    record { heap = risen g.T.TotalOrder.before o l.s l.at (c.args.last + 1) (λ d. sym (c.if-is_before.ensures d)) l.invariant.1; slots = l.invariant.2 }
+    record { heap = risen g.T.TotalOrder.before o l.s l.at (c.args.last + 1) (λ d. cc (c.if-is_before.ensures d)) l.invariant.1; slots = l.invariant.2 }

@@ -2,7 +2,7 @@ use Rattle.std.proofs.Common.{ℕ, ltb, length, sym, ap, ◌∙◌}
 use Rattle.queue.specs.Entries.{entry_before}
 use Rattle.chain.specs.Chains.{cells_of, chain_of}
 use Rattle.chain.specs.ChainBags.{length-chain, chain-ordered}
-use Rattle.queue.specs.Calls.{adds}
+use Rattle.queue.proofs.Calls.{adds}
 use Rattle.chain.proofs.Keeping.{same-chain, put_order}
 use Rattle.chain.proofs.entry_chain.EntryChainOpenList.put.Goals as goal
 

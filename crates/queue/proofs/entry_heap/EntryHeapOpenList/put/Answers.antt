@@ -2,7 +2,7 @@ use Rattle.std.proofs.Common.{ℕ, ltb, length, sym, ap, ◌∙◌}
 use Rattle.heap.specs.Meaning.{slots_of, bag_of}
 use Rattle.heap.proofs.Bags.{length-bag}
 use Rattle.queue.specs.Entries.{entry_before}
-use Rattle.queue.specs.Calls.{adds}
+use Rattle.queue.proofs.Calls.{adds}
 use Rattle.queue.proofs.Unchanged.{same_entries}
 use Rattle.queue.proofs.entry_heap.EntryHeapOpenList.put.Goals as goal
 

@@ -2,7 +2,8 @@ use Rattle.std.proofs.Common.{take}
 use Rattle.heap.specs.Meaning.{slots_of, bag_of}
 use Rattle.heap.proofs.Bags.{sorted-in-order}
 use Rattle.queue.specs.ReadyTasks.{ready_before}
-use Rattle.queue.specs.ReadyCalls.{tasks-ordered, takes}
+use Rattle.queue.specs.ReadyOrder.{tasks-ordered}
+use Rattle.queue.proofs.ReadyCalls.{takes}
 use Rattle.queue.proofs.Unchanged.{same-tasks}
 use Rattle.queue.proofs.ready.ready_heap.ReadyHeap.take.Goals as goal
 
