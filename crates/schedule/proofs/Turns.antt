@@ -1,6 +1,6 @@
 use Rattle.std.proofs.Common.{◌≡◌, ℕ, zero, suc, ◌+◌, ◌<◌, ◌≤◌, Bool, true, false, cond, ◌&&◌, eqb, List, [], ◌∷◌, length, Some, None, sym, refl, ap, ◌∙◌, subst, inl, inr, add-one, arith}
 use native.Mathlib.Decide.{ℕ_discrete}
-use Rattle.std.specs.List.{AllByRecursion as All}
+use Rattle.std.specs.List.{AllByRecursion}
 use Rattle.std.proofs.ByRecursion.{all_shuffled}
 use Rattle.heap.specs.Bag.{insert, first, rest}
 use Rattle.heap.proofs.Bags.{length-insert, insert-adds, insert_comm, front}
@@ -13,7 +13,7 @@ use Rattle.model.proofs.Rules.{free-test, test-free}
 use Rattle.model.proofs.Starts.{lawful-dag}
 use Rattle.queue.specs.declared.ready.ReadyTask.{ReadyTask}
 use Rattle.queue.specs.ReadyTasks.{ready_before}
-use Rattle.queue.specs.ReadyCalls.{tasks-ordered}
+use Rattle.queue.specs.ReadyOrder.{tasks-ordered}
 use Rattle.schedule.specs.ListSchedule.{next_task, Next}
 use Rattle.schedule.specs.Waiting.{ready_task, tasks_where, free_tasks, released}
 use Rattle.schedule.proofs.Choosing.{next-is}
@@ -60,12 +60,12 @@ module _ (g : Graph) where
       go true ih = insert_comm ready_before tasks-ordered (ready_task g t) (ready_task g n) (tasks_where g f n) ∙ ap (insert ready_before (ready_task g n)) ih
       go false ih = ih
 
-  where-all : (P : ReadyTask → Type 0) (f : ℕ → Bool) (n : ℕ) → ((u : ℕ) → u < n → f u ≡ true → P (ready_task g u)) → All P (tasks_where g f n)
+  where-all : (P : ReadyTask → Type 0) (f : ℕ → Bool) (n : ℕ) → ((u : ℕ) → u < n → f u ≡ true → P (ready_task g u)) → AllByRecursion P (tasks_where g f n)
   unfolding tasks_where
   where-all P f zero h = tt
   where-all P f (suc n) h = go (f n) refl (where-all P f n (λ u l e. h u (omega arith) e))
     where
-      go : (b : Bool) → f n ≡ b → All P (tasks_where g f n) → All P (cond b (insert ready_before (ready_task g n) (tasks_where g f n)) (tasks_where g f n))
+      go : (b : Bool) → f n ≡ b → AllByRecursion P (tasks_where g f n) → AllByRecursion P (cond b (insert ready_before (ready_task g n) (tasks_where g f n)) (tasks_where g f n))
       go true e ih = all_shuffled P (ready_task g n ∷ tasks_where g f n) (insert ready_before (ready_task g n) (tasks_where g f n)) (insert-adds ready_before (ready_task g n) (tasks_where g f n)) (h n (omega arith) e, ih)
       go false e ih = ih
 
