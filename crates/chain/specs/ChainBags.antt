@@ -1,5 +1,5 @@
 use Rattle.std.specs.Prelude.{◌≡◌, ℕ, zero, suc, ◌<◌, ◌≤◌, false, List, [], ◌∷◌, length, slice_index_or, refl}
-use Rattle.std.proofs.Common.{ap, ◌∙◌, arith}
+use Rattle.std.proofs.Common.{sym, ap, ◌∙◌, subst}
 use Rattle.heap.specs.Bag.{InOrder}
 use Rattle.heap.proofs.Bags.{in-order-by-places}
 use Rattle.queue.specs.declared.entry.Entry.{Entry}
@@ -22,7 +22,7 @@ pub length-chain : (xs : List Cell) (head n : ℕ) → length (entries_at xs (wa
 length-chain xs head n = length-entries xs (walk xs n head) ∙ length-walk xs n head
 
 pub chain-bounded : (xs : List Cell) (head n : ℕ) → n ≤ length xs → length (entries_at xs (walk xs n head)) ≤ length xs
-chain-bounded xs head n h = omega (arith, length-chain xs head n)
+chain-bounded xs head n h = let P : ℕ → Type 0 = λ k. k ≤ length xs in subst P (sym (length-chain xs head n)) h
 
 pub chain-ordered : (b : List Entry) → ((i j : ℕ) → (i < j) × (j < length b) → entry_before (slice_index_or b j blank.entry) (slice_index_or b i blank.entry) ≡ false) → InOrder entry_before b
 chain-ordered b h = in-order-by-places entry_before entries-ordered b blank.entry h

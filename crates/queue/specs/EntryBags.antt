@@ -1,5 +1,5 @@
 use Rattle.std.specs.Prelude.{ℕ, ◌≤◌, List, length, take}
-use Rattle.std.proofs.Common.{arith}
+use Rattle.std.proofs.Common.{sym, subst}
 use Rattle.heap.specs.Order.{Total}
 use Rattle.heap.specs.Bag.{sorted, InOrder}
 use Rattle.heap.proofs.Bags.{sorted-in-order, length-bag}
@@ -16,4 +16,4 @@ pub slots-ordered : (xs : List Entry) (n : ℕ) → InOrder entry_before (sorted
 slots-ordered xs n = sorted-in-order entry_before entries-ordered (take n xs)
 
 pub slots-bounded : (xs : List Entry) (n : ℕ) → n ≤ length xs → length (sorted entry_before (take n xs)) ≤ length xs
-slots-bounded xs n h = omega (arith, length-bag entry_before xs n h)
+slots-bounded xs n h = let P : ℕ → Type 0 = λ k. k ≤ length xs in subst P (sym (length-bag entry_before xs n h)) h
