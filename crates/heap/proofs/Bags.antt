@@ -2,14 +2,12 @@ use Rattle.std.proofs.Common.{◌≡◌, ℕ, zero, suc, ◌<◌, ◌≤◌, Boo
 use Rattle.std.specs.List.Sorted.{IsPermutation}
 use Rattle.std.specs.List.{AllByRecursion}
 use native.Mathlib.Decide.{ℕ_discrete}
+use borrow.Author.Clash.{clash}
 use Rattle.std.proofs.ByRecursion.{All-weaker, All-from_get_or, All-get_or, all_shuffled}
 use Rattle.std.proofs.lemmas.List.Edits.{swap_is}
 use Rattle.std.proofs.lemmas.List.Sorted.{IsPermutation-refl, IsPermutation-trans, IsPermutation-cons, IsPermutation-swap, IsPermutation-keeps}
 use Rattle.heap.specs.Order.{Total}
 use Rattle.heap.specs.Bag.{insert, sorted, first, rest, InOrder}
-
-pub clash : {A : Type 0} (b : Bool) → b ≡ true → b ≡ false → A
-clash b p q = absurd (let z : ◌≡◌ {A = Bool} true false = sym p ∙ q in let w : ◌≡◌ {A = ℕ} 0 1 = cc in omega arith)
 
 pub head : {X : Type 0} (l : List X) → 0 < length l → X
 head [] h = absurd (not-suc-le-zero h)

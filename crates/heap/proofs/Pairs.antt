@@ -3,7 +3,7 @@ use native.Mathlib.Decide.{ℕ_discrete, dec_lt}
 use Rattle.std.proofs.lemmas.Bool.{lt-ltb, le-ltb, eq-eqb, ne_eqb}
 use Rattle.heap.specs.Order.{Total}
 use Rattle.heap.specs.Pairs.{below}
-use Rattle.heap.proofs.Bags.{clash}
+use borrow.Author.Clash.{clash}
 
 -- (c, d) is at most (a, b)
 abbrev pub AtMost : ℕ → ℕ → ℕ → ℕ → Type 0

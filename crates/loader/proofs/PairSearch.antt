@@ -1,6 +1,7 @@
 use Rattle.std.proofs.Common.{◌≡◌, ℕ, ◌<◌, true, false, ◌&&◌, eqb, List, length, get_or, take, sym, ap, ◌∙◌, arith, length-take-le, get_or-take}
 use Rattle.std.proofs.lemmas.Bool.{and_from, and_parts, eq-eqb, eqb-true}
-use Rattle.model.proofs.Range.{any-on, any-has, not_so}
+use Rattle.std.proofs.lemmas.Bool.{false_from_ne_true}
+use Rattle.model.proofs.Range.{any-on, any-has}
 use Rattle.loader.specs.declared.transfer.Transfer.{Transfer}
 use Rattle.loader.specs.View.{blank, leads}
 
@@ -20,7 +21,7 @@ leads-at ts a b e =
 pub pair-new : (ts : List Transfer) (k : ℕ) → k < length ts
     → ((i j : ℕ) → (i < j) × (j < length ts) × ((get_or ts i blank).from ≡ (get_or ts j blank).from) × ((get_or ts i blank).to ≡ (get_or ts j blank).to) → ⊥)
     → leads (take k ts) (get_or ts k blank).from (get_or ts k blank).to ≡ false
-pair-new ts k h apart = not_so _ (λ e.
+pair-new ts k h apart = false_from_ne_true _ (λ e.
     let p = leads-at (take k ts) (get_or ts k blank).from (get_or ts k blank).to e in
     let l = length-take-le k ts (omega arith) in
     let j : p.0 < k = omega (arith, p.1) in

@@ -3,7 +3,9 @@ use Rattle.std.proofs.lemmas.Bool.{eq-eqb, eqb-true, or_left, or_right, or_cases
 use Rattle.model.specs.Graph.{Graph, Ends, Chain, OnCycle, Acyclic}
 use Rattle.model.specs.Graph.Chain.{link, join}
 use Rattle.model.specs.Cycles.{joined, reach, cyclic, LowestOnCycle}
-use Rattle.model.proofs.Range.{clash, any-on, any-has, first-is, first-none, not_so}
+use borrow.Author.Clash.{clash}
+use Rattle.std.proofs.lemmas.Bool.{false_from_ne_true}
+use Rattle.model.proofs.Range.{any-on, any-has, first-is, first-none}
 
 -- a transfer is found by its ends
 link-joined : (g : Graph) (k : ℕ) → k < g.count → joined g (g.from k) (g.to k) ≡ true
@@ -78,4 +80,4 @@ cyclic-none g E h t c =
     clash (reach g g.tasks t t) (cycle-reach g E t c) (x.1 t (omega (arith, begins g E c)))
 
 pub acyclic-none : (g : Graph) → Acyclic g → cyclic g ≡ g.tasks
-acyclic-none g A = sym (first-none g.tasks (λ t. reach g g.tasks t t) (λ t h. not_so _ (λ e. A t (reach-cycle g t e))))
+acyclic-none g A = sym (first-none g.tasks (λ t. reach g g.tasks t t) (λ t h. false_from_ne_true _ (λ e. A t (reach-cycle g t e))))

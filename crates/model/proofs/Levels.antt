@@ -4,7 +4,8 @@ use Rattle.std.proofs.lemmas.Bool.{eq-eqb, ne_eqb}
 use Rattle.model.specs.Range.{top, put}
 use Rattle.model.specs.Graph.{Graph, Ends, Chain, ChainWork, stop, go, BottomLevel, longest, level}
 use Rattle.model.specs.Graph.Chain.{link, join}
-use Rattle.model.proofs.Range.{clash, le-top, top-le, top-same, cond-le, put_other}
+use borrow.Author.Clash.{clash}
+use Rattle.model.proofs.Range.{le-top, top-le, top-same, cond-le, put_other}
 use Rattle.model.proofs.Counting.{missing, missing-put, all-missing}
 use Rattle.model.proofs.Minimal.{Dag}
 

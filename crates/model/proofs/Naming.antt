@@ -4,7 +4,8 @@ use Rattle.model.specs.Range.{put}
 use Rattle.model.specs.Graph.{Graph}
 use Rattle.model.specs.Partial.{Partial}
 use Rattle.model.specs.NormalForm.{Normal, Names, note, naming, normal_form, Renamed, OnMachines, Same, Renames}
-use Rattle.model.proofs.Range.{clash, put_same, put_other}
+use borrow.Author.Clash.{clash}
+use Rattle.model.proofs.Range.{put_same, put_other}
 use Rattle.model.proofs.Counting.{missing, missing-put, all-missing}
 use Rattle.model.proofs.Renamings.{matching}
 

@@ -1,15 +1,8 @@
 use Rattle.std.proofs.Common.{◌≡◌, ℕ, zero, suc, ◌+◌, ◌-◌, ◌<◌, ◌≤◌, max, Bool, true, false, cond, ◌&&◌, ◌||◌, ltb, ◌≢◌, sym, refl, ap, ◌∙◌, add-one, arith}
 use native.Mathlib.Decide.{ℕ_discrete, dec_lt}
+use borrow.Author.Clash.{clash}
 use Rattle.std.proofs.lemmas.Bool.{eq-eqb, ne_eqb, lt-ltb, le-ltb, and_parts, and_right, or_right}
 use Rattle.model.specs.Range.{top, every, any, first, put}
-
--- two answers of one test
-pub clash : {A : Type 0} (b : Bool) → b ≡ true → b ≡ false → A
-clash b p q = absurd (let z : ◌≡◌ {A = Bool} true false = sym p ∙ q in let zz : ◌≡◌ {A = ℕ} 0 1 = cc in omega arith)
-
-pub not_so : (b : Bool) → (b ≡ true → ⊥) → b ≡ false
-not_so true h = absurd (h refl)
-not_so false h = refl
 
 pub le-top : (n : ℕ) (f : ℕ → ℕ) (k : ℕ) → k < n → f k ≤ top n f
 le-top zero f k h = absurd (omega arith)
@@ -27,12 +20,6 @@ top-le (suc n) f y h = omega (arith, h n (omega arith), top-le n f y (λ k l. h 
 pub cond-le : (b : Bool) (x y : ℕ) → (b ≡ true → x ≤ y) → cond b x 0 ≤ y
 cond-le true x y h = h refl
 cond-le false x y h = omega arith
-
-pub and_l : (a b : Bool) → (a && b) ≡ true → a ≡ true
-and_l a b e = (and_parts a b e).0
-
-pub and_r : (a b : Bool) → (a && b) ≡ true → b ≡ true
-and_r a b e = (and_parts a b e).1
 
 pub put_same : {A : Type 0} (f : ℕ → A) (t : ℕ) (v : A) (u : ℕ) → u ≡ t → put f t v u ≡ v
 put_same f t v u e = rw (eq-eqb u t e)
@@ -54,7 +41,7 @@ top-same (suc n) f h e = omega (arith, e n (omega arith), top-same n f h (λ k l
 -- every decides
 pub every-all : (n : ℕ) (f : ℕ → Bool) → every n f ≡ true → (k : ℕ) → k < n → f k ≡ true
 every-all zero f e k h = absurd (omega arith)
-every-all (suc n) f e k h = elim (ℕ_discrete k n) [ yes q ↦ ap f q ∙ and_r (every n f) (f n) e | no q ↦ every-all n f (and_l _ _ e) k (omega arith) ]
+every-all (suc n) f e k h = elim (ℕ_discrete k n) [ yes q ↦ ap f q ∙ (and_parts (every n f) (f n) e).1 | no q ↦ every-all n f (and_parts _ _ e).0 k (omega arith) ]
 
 pub every-from : (n : ℕ) (f : ℕ → Bool) → ((k : ℕ) → k < n → f k ≡ true) → every n f ≡ true
 every-from zero f h = refl

@@ -8,7 +8,8 @@ use Rattle.model.specs.Partial.{Partial, Complete, Free, fed, is_ready, is_free,
 use Rattle.model.specs.NormalForm.{Renamed, normal_form}
 use Rattle.model.specs.Reachable.{Reachable, Empty}
 use Rattle.model.specs.Reachable.Reachable.{none, more}
-use Rattle.model.proofs.Range.{clash, le-top, top-le, cond-le, and_l, and_r, every-all, every-from, every-off, put_same, put_other}
+use borrow.Author.Clash.{clash}
+use Rattle.model.proofs.Range.{le-top, top-le, cond-le, every-all, every-from, every-off, put_same, put_other}
 use Rattle.model.proofs.Minimal.{Dag}
 use Rattle.model.proofs.Naming.{form-renamed, form-normal}
 
@@ -51,7 +52,7 @@ pub finish-le : (g : Graph) (s : Partial) (m y : ℕ) → ((u : ℕ) → u < g.t
 finish-le g s m y h =
     top-le g.tasks (finish_on g s m) y
     (λ u hu. cond-le (s.placed u && eqb (s.machine u) m) (s.start u + g.work u) y
-    (λ e. h u hu (and_l _ _ e) (eqb-true _ _ (and_r (s.placed u) _ e))))
+    (λ e. h u hu (and_parts _ _ e).0 (eqb-true _ _ (and_parts (s.placed u) _ e).1)))
 
 empty-obeys : (g : Graph) → Dag g → (s : Partial) → Empty g s → Obeys g s
 empty-obeys g S s E = record {

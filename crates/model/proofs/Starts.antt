@@ -6,7 +6,8 @@ use Rattle.model.specs.Schedule.{Feasible}
 use Rattle.model.specs.Partial.{Partial, Complete, Unfinished, Free, arrival, start_on, append, whole}
 use Rattle.model.specs.Reachable.{Reachable}
 use Rattle.model.specs.Reachable.Reachable.{none, more}
-use Rattle.model.proofs.Range.{clash, top-le, cond-le, put_same, put_other}
+use borrow.Author.Clash.{clash}
+use Rattle.model.proofs.Range.{top-le, cond-le, put_same, put_other}
 use Rattle.model.proofs.Counting.{missing, missing-put, missing-alike, missing-le}
 use Rattle.model.proofs.Minimal.{Dag, minimal}
 use Rattle.model.proofs.Rules.{finish-le, reachable-obeys, complete-feasible}

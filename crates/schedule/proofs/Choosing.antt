@@ -3,7 +3,7 @@ use native.Mathlib.Decide.{ℕ_discrete, dec_lt}
 use Rattle.std.proofs.lemmas.Bool.{eq-eqb, ne_eqb, lt-ltb, le-ltb}
 use Rattle.model.specs.Graph.{Graph, level}
 use Rattle.model.specs.Partial.{Partial, Unfinished, Free, is_free, start_on}
-use Rattle.model.proofs.Range.{clash}
+use borrow.Author.Clash.{clash}
 use Rattle.model.proofs.Minimal.{Dag}
 use Rattle.model.proofs.Rules.{free-test, test-free}
 use Rattle.model.proofs.Starts.{some-free}

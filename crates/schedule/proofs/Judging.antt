@@ -3,7 +3,8 @@ use native.Mathlib.Decide.{dec_le, dec_lt}
 use Rattle.std.proofs.lemmas.Bool.{eq-eqb, ne_eqb, eqb-true, eqb-false, lt-ltb, le-ltb, ltb-true, le-leb, lt-leb, and_parts, and_from, and_left, and_right, not-true, not_from_false}
 use Rattle.model.specs.Graph.{Graph, Ends}
 use Rattle.model.specs.Schedule.{Schedule, Feasible, delay, makespan}
-use Rattle.model.proofs.Range.{clash, any-on, any-has, first-is}
+use borrow.Author.Clash.{clash}
+use Rattle.model.proofs.Range.{any-on, any-has, first-is}
 use Rattle.partial.specs.declared.placement.Placement.{Placement}
 use Rattle.schedule.specs.declared.fault.CheckFault.TheVariants as Fault
 use Rattle.schedule.specs.declared.rule.Rule.{Rule}

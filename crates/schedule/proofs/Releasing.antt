@@ -1,26 +1,25 @@
 use Rattle.std.proofs.Common.{◌≡◌, ℕ, zero, suc, ◌+◌, ◌<◌, ◌≤◌, Bool, true, false, cond, ◌&&◌, ◌||◌, eqb, ◌≢◌, ◌⊎◌, List, sym, refl, ap, ◌∙◌, inl, inr, add-one, arith}
 use native.Mathlib.Decide.{ℕ_discrete}
-use Rattle.std.proofs.lemmas.Bool.{eq-eqb, eqb-true, and_parts, and_from, or_right}
+use Rattle.std.proofs.lemmas.Bool.{eq-eqb, eqb-true, and_parts, and_from, or_right, or_cases}
 use Rattle.heap.specs.Bag.{insert}
 use Rattle.model.specs.Range.{any, put}
 use Rattle.model.specs.Graph.{Graph, Lawful}
 use Rattle.model.specs.Partial.{Partial, Free, is_free, append}
 use Rattle.model.specs.NormalForm.{normal_form}
-use Rattle.model.proofs.Range.{clash, not_so, put_same, put_other, any-on, any-has}
+use borrow.Author.Clash.{clash}
+use Rattle.std.proofs.lemmas.Bool.{false_from_ne_true}
+use Rattle.model.proofs.Range.{put_same, put_other, any-on, any-has}
 use Rattle.model.proofs.Rules.{free-test, test-free}
 use Rattle.queue.specs.declared.ready.ReadyTask.{ReadyTask}
 use Rattle.queue.specs.ReadyTasks.{ready_before}
+use Rattle.schedule.specs.ListSchedule.{earliest, extend}
 use Rattle.schedule.specs.Waiting.{ready_task, tasks_where, free_tasks, released}
-use Rattle.schedule.proofs.Turns.{where-alike, where-put, released-none, released-more}
+use Rattle.schedule.proofs.Turns.{Turn, where-alike, where-put, released-none, released-more}
 
 same_test : (a b : Bool) → (a ≡ true → b ≡ true) → (b ≡ true → a ≡ true) → a ≡ b
 same_test true b f h = sym (f refl)
 same_test false true f h = h refl
 same_test false false f h = refl
-
-either : (a b : Bool) → (a || b) ≡ true → (a ≡ true) ⊎ (b ≡ true)
-either true b e = inl refl
-either false b e = inr e
 
 -- task t, free in s, was placed, which gave c
 module _ (g : Graph) (L : Lawful g) (s c : Partial) (t : ℕ) (F : Free g s t) (P : (u : ℕ) → u < g.tasks → c.placed u ≡ put s.placed t true u) where
@@ -59,7 +58,7 @@ module _ (g : Graph) (L : Lawful g) (s c : Partial) (t : ℕ) (F : Free g s t) (
       or_right (put (is_free g s) t false u) (any k (leads u) && is_free g c u) (and_from _ _ a e)
 
   parts : (k u : ℕ) → waits k u ≡ true → Old u ⊎ (Led k u × (is_free g c u ≡ true))
-  parts k u e = elim (either (put (is_free g s) t false u) (any k (leads u) && is_free g c u) e) [
+  parts k u e = elim (or_cases (put (is_free g s) t false u) (any k (leads u) && is_free g c u) e) [
     | inl a ↦ inl (old u a)
     | inr b ↦ let p = and_parts (any k (leads u)) (is_free g c u) b in inr (led k u p.0, p.1)
   ]
@@ -86,7 +85,7 @@ module _ (g : Graph) (L : Lawful g) (s c : Partial) (t : ℕ) (F : Free g s t) (
     now-free = (and_parts (eqb (g.from k) t) (is_free g c (g.to k)) e).1
 
     new : waits k (g.to k) ≡ false
-    new = not_so (waits k (g.to k)) (λ w. elim (parts k (g.to k) w) [
+    new = false_from_ne_true (waits k (g.to k)) (λ w. elim (parts k (g.to k) w) [
       | inl o ↦ clash (s.placed t) (sym (ap s.placed from-t) ∙ o.1.2 k h refl) F.1
       | inr x ↦ L.numbers.pairs x.0.0 k (x.0.1, h, x.0.2 ∙ sym from-t, x.0.3)
     ])
@@ -160,3 +159,8 @@ module _ (g : Graph) (L : Lawful g) (s c : Partial) (t : ℕ) (F : Free g s t) (
 pub child-placed : (g : Graph) (s c : Partial) (t m : ℕ) → c ≡ normal_form g (append g s t m) → (u : ℕ) → u < g.tasks → c.placed u ≡ put s.placed t true u
 unfolding normal_form append
 child-placed g s c t m e u h = ap (λ (q : Partial). q.placed u) e
+
+-- the first of those that wait is taken out and placed, and those that it releases wait: again the free tasks wait
+pub waits-again : (g : Graph) → Lawful g → (s q : Partial) (c : List ReadyTask) (x : ReadyTask)
+    → Turn g s x c → q ≡ extend g s x.task → released g q x.task g.count c ≡ free_tasks g q
+waits-again g L s q c x turn e = ap (released g q x.task g.count) turn.others ∙ releases-all g L s q x.task turn.free (child-placed g s q x.task (earliest g s x.task g.machines) e)

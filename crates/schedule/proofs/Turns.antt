@@ -8,7 +8,8 @@ use Rattle.heap.proofs.Pairs.{from-at-most}
 use Rattle.model.specs.Range.{put}
 use Rattle.model.specs.Graph.{Graph, Lawful, level}
 use Rattle.model.specs.Partial.{Partial, Unfinished, Free, is_free}
-use Rattle.model.proofs.Range.{clash, put_same, put_other}
+use borrow.Author.Clash.{clash}
+use Rattle.model.proofs.Range.{put_same, put_other}
 use Rattle.model.proofs.Rules.{free-test, test-free}
 use Rattle.model.proofs.Starts.{lawful-dag}
 use Rattle.queue.specs.declared.ready.ReadyTask.{ReadyTask}

@@ -1,6 +1,6 @@
 ghost use Rattle.std.specs.Prelude.{◌≡◌, ◌<◌, ◌≤◌, ◌&&◌, ◌||◌, ◌==◌, nat_lt, slice_index};
 ghost use Rattle.model.specs.Schedule.{Feasible};
-ghost use Rattle.model.specs.Partial.{Complete, Unfinished, is_free, start_on, whole};
+ghost use Rattle.model.specs.Partial.{Complete, Free, Unfinished, is_free, start_on, whole};
 ghost use Rattle.model.specs.Reachable.{Reachable};
 ghost use Rattle.loader.specs.Meaning.{the_graph, levels_of};
 ghost use Rattle.partial.specs.Meaning.{the_partial};
@@ -58,12 +58,12 @@ pub fn earliest_machine(g: &TaskGraph, q: &PartialSchedule, t: usize) -> u8
     best
 }
 
-// One more task of the list schedule.
-fn one_more(g: &TaskGraph, q: &PartialSchedule) -> PartialSchedule
-    requires { (Reachable (the_graph g.now) (the_partial q.now)) × (Unfinished (the_graph g.now) (the_partial q.now)) }
-    ensures { the_partial result ≡ extend (the_graph g.now) (the_partial q.now) (next_task (the_graph g.now) (the_partial q.now) (the_graph g.now).tasks) }
+// Task t on the machine where it starts earliest.
+fn extend(g: &TaskGraph, q: &PartialSchedule, t: usize) -> PartialSchedule
+    requires state { Reachable (the_graph g.now) (the_partial q.now) }
+    requires task { Free (the_graph g.now) (the_partial q.now) t }
+    ensures { the_partial result ≡ extend (the_graph g.now) (the_partial q.now) t }
 {
-    let t = next_task(g, q);
     let m = earliest_machine(g, q, t);
     match q.child(g, t, m) {
         Some(c) => c,
@@ -71,7 +71,15 @@ fn one_more(g: &TaskGraph, q: &PartialSchedule) -> PartialSchedule
     }
 }
 
-// One more task of the list schedule: the first of those that wait is placed, and the tasks that it releases wait from then on.
+// One more task of the list schedule, found by a search over all tasks.
+fn one_more(g: &TaskGraph, q: &PartialSchedule) -> PartialSchedule
+    requires { (Reachable (the_graph g.now) (the_partial q.now)) × (Unfinished (the_graph g.now) (the_partial q.now)) }
+    ensures { the_partial result ≡ extend (the_graph g.now) (the_partial q.now) (next_task (the_graph g.now) (the_partial q.now) (the_graph g.now).tasks) }
+{
+    extend(g, q, next_task(g, q))
+}
+
+// The same, found among the tasks that wait: the first of them is placed, and the tasks that it releases wait from then on.
 fn one_turn(g: &TaskGraph, q: &PartialSchedule, waiting: &mut ReadyHeap) -> PartialSchedule
     requires state { (Reachable (the_graph g.now) (the_partial q.now)) × (Unfinished (the_graph g.now) (the_partial q.now)) }
     requires waiting { (ready_bag waiting.old ≡ free_tasks (the_graph g.now) (the_partial q.now)) × ((the_graph g.now).tasks ≤ ready_room waiting.old) }
@@ -83,11 +91,7 @@ fn one_turn(g: &TaskGraph, q: &PartialSchedule, waiting: &mut ReadyHeap) -> Part
         Some(next) => next.task,
         None => unreachable(),
     };
-    let machine = earliest_machine(g, q, t);
-    let c = match q.child(g, t, machine) {
-        Some(c) => c,
-        None => unreachable(),
-    };
+    let c = extend(g, q, t);
     release(g, &c, t, waiting);
     c
 }

@@ -1,7 +1,7 @@
 use Rattle.std.proofs.Common.{◌≡◌, ◌<◌, true, false, sym, ◌∙◌, subst, arith, rules}
 use Rattle.std.proofs.lemmas.Bool.{lt-ltb, ltb-true, and_from, and_parts}
 use Rattle.model.specs.Partial.{Free, Obeys}
-use Rattle.model.proofs.Range.{clash}
+use borrow.Author.Clash.{clash}
 use Rattle.model.proofs.Rules.{append-obeys, free-test, test-free}
 use Rattle.loader.specs.Meaning.{the_graph}
 use Rattle.partial.specs.Meaning.{the_partial}
