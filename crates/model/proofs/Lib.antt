@@ -7,3 +7,4 @@ pub mod Rules
 pub mod Levels
 pub mod Cycles
 pub mod Starts
+pub mod Chains

@@ -110,3 +110,12 @@ first-none n f b = go (first n f) (first-is n f)
   where
     go : (t : ℕ) → First n f t → n ≡ t
     go t x = elim (dec_lt t n) [ yes l ↦ clash (f t) (x.2 l) (b t l) | no l ↦ omega (arith, x.0) ]
+
+pub any-same : (n : ℕ) (f h : ℕ → Bool) → ((k : ℕ) → k < n → f k ≡ h k) → any n f ≡ any n h
+unfolding any
+any-same zero f h e = refl
+any-same (suc n) f h e = rw (any-same n f h (λ k l. e k (omega arith)), e n (omega arith)) refl
+
+pub every-same : (n : ℕ) (f h : ℕ → Bool) → ((k : ℕ) → k < n → f k ≡ h k) → every n f ≡ every n h
+every-same zero f h e = refl
+every-same (suc n) f h e = rw (every-same n f h (λ k l. e k (omega arith)), e n (omega arith)) refl

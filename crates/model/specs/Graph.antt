@@ -1,7 +1,8 @@
-use Rattle.std.specs.Prelude.{◌≡◌, ℕ, zero, suc, ◌+◌, ◌<◌, ◌≤◌, cond, ◌==◌, ◌≢◌}
+use Rattle.std.specs.Prelude.{◌≡◌, ℕ, zero, suc, ◌+◌, ◌<◌, ◌≤◌, if◌then◌else◌, ◌==◌, ◌≢◌}
 use Rattle.model.specs.Range.{top}
 
--- a task graph: tasks and machines numbered from 0, the work of each task, and `count` transfers, each from a task to a task at a cost
+-- a task graph: tasks and machines numbered from 0, the work of each task, and `count` transfers,
+-- each from a task to a task at a cost
 pub record Graph : Type 0 where
   pub tasks : ℕ
   pub machines : ℕ
@@ -61,7 +62,8 @@ pub record Lawful (g : Graph) : Type 0 where
 -- the sum of work along a chain of transfers that begins with a task
 pub data ChainWork (g : Graph) : ℕ → ℕ → Type 0 where
   stop : {t : ℕ} → ChainWork g t (g.work t)
-  go : {t v : ℕ} (k : ℕ) → k < g.count → g.from k ≡ t → ChainWork g (g.to k) v → ChainWork g t (g.work t + v)
+  go : {t v : ℕ} (k : ℕ) → k < g.count → g.from k ≡ t
+      → ChainWork g (g.to k) v → ChainWork g t (g.work t + v)
 
 -- the bottom level of a task: some chain that begins with it has this sum of work, and none has more; costs do not count
 abbrev pub BottomLevel : Graph → ℕ → ℕ → Type 0
@@ -70,7 +72,8 @@ BottomLevel g t v = ChainWork g t v × ((w : ℕ) → ChainWork g t w → w ≤ 
 -- the greatest sum of work along chains of at most n transfers that begin with t
 abbrev pub longest : Graph → ℕ → ℕ → ℕ
 longest g zero t = g.work t
-longest g (suc n) t = g.work t + top g.count (λ k. cond (g.from k == t) (longest g n (g.to k)) 0)
+longest g (suc n) t = g.work t
+    + top g.count (λ k. if g.from k == t then longest g n (g.to k) else 0)
 
 -- without cycles no chain has more transfers than there are tasks
 unfoldable pub level : Graph → ℕ → ℕ

@@ -1,4 +1,4 @@
-use Rattle.std.specs.Prelude.{◌≡◌, ℕ, ◌+◌, ◌<◌, ◌≤◌, max, Bool, true, false, cond, not, ◌&&◌, ◌||◌, ◌≢◌, ◌⊎◌, ◌==◌, nat_lt}
+use Rattle.std.specs.Prelude.{◌≡◌, ℕ, ◌+◌, ◌<◌, ◌≤◌, max, Bool, true, false, if◌then◌else◌, not, ◌&&◌, ◌||◌, ◌≢◌, ◌⊎◌, ◌==◌, nat_lt}
 use Rattle.model.specs.Range.{top, every, put}
 use Rattle.model.specs.Graph.{Graph}
 use Rattle.model.specs.Schedule.{Schedule, delay}
@@ -25,7 +25,8 @@ Unfinished g s = (t : ℕ) × (t < g.tasks) × (s.placed t ≡ false)
 
 -- a task is free when it is not placed and all its predecessors are
 abbrev pub Free : Graph → Partial → ℕ → Type 0
-Free g s t = (t < g.tasks) × (s.placed t ≡ false) × ((k : ℕ) → k < g.count → g.to k ≡ t → s.placed (g.from k) ≡ true)
+Free g s t = (t < g.tasks) × (s.placed t ≡ false)
+    × ((k : ℕ) → k < g.count → g.to k ≡ t → s.placed (g.from k) ≡ true)
 
 -- transfer k leads elsewhere than to task t, or from a placed task
 abbrev pub fed : Graph → Partial → ℕ → ℕ → Bool
@@ -40,7 +41,7 @@ is_free g s t = nat_lt t g.tasks && is_ready g s t
 
 -- the finish of task u if it is placed on machine m, else 0
 abbrev pub finish_on : Graph → Partial → ℕ → ℕ → ℕ
-finish_on g s m u = cond (s.placed u && s.machine u == m) (s.start u + g.work u) 0
+finish_on g s m u = if s.placed u && s.machine u == m then s.start u + g.work u else 0
 
 -- the greatest finish of the tasks placed on a machine, or 0
 abbrev pub machine_finish : Graph → Partial → ℕ → ℕ
@@ -48,7 +49,10 @@ machine_finish g s m = top g.tasks (finish_on g s m)
 
 -- when the data of transfer k arrives for task t on machine m; 0 where it leads elsewhere
 abbrev pub arrival : Graph → Partial → ℕ → ℕ → ℕ → ℕ
-arrival g s t m k = cond (g.to k == t) (s.start (g.from k) + g.work (g.from k) + delay g k (s.machine (g.from k)) m) 0
+arrival g s t m k =
+    if g.to k == t
+    then s.start (g.from k) + g.work (g.from k) + delay g k (s.machine (g.from k)) m
+    else 0
 
 -- the data ready time of task t on machine m: the greatest finish of a predecessor plus cost, cost 0 on the same machine; 0 without predecessors
 abbrev pub data_ready : Graph → Partial → ℕ → ℕ → ℕ
@@ -60,7 +64,11 @@ start_on g s t m = max (data_ready g s t m) (machine_finish g s m)
 
 -- task t put on machine m at a start
 abbrev pub place : Partial → ℕ → ℕ → ℕ → Partial
-place s t m v = record { placed = put s.placed t true; machine = put s.machine t m; start = put s.start t v }
+place s t m v = record {
+  placed = put s.placed t true;
+  machine = put s.machine t m;
+  start = put s.start t v;
+}
 
 unfoldable pub append : Graph → Partial → ℕ → ℕ → Partial
 append g s t m = place s t m (start_on g s t m)
@@ -69,5 +77,9 @@ append g s t m = place s t m (start_on g s t m)
 pub record Obeys (g : Graph) (s : Partial) : Type 0 where
   pub on : (t : ℕ) → t < g.tasks → s.placed t ≡ true → s.machine t < g.machines
   pub before : (k : ℕ) → k < g.count → s.placed (g.to k) ≡ true → s.placed (g.from k) ≡ true
-  pub after : (k : ℕ) → k < g.count → s.placed (g.to k) ≡ true → s.start (g.from k) + g.work (g.from k) + delay g k (s.machine (g.from k)) (s.machine (g.to k)) ≤ s.start (g.to k)
-  pub apart : (a b : ℕ) → a < g.tasks → b < g.tasks → s.placed a ≡ true → s.placed b ≡ true → a ≢ b → s.machine a ≡ s.machine b → (s.start a + g.work a ≤ s.start b) ⊎ (s.start b + g.work b ≤ s.start a)
+  pub after : (k : ℕ) → k < g.count → s.placed (g.to k) ≡ true
+      → s.start (g.from k) + g.work (g.from k)
+      + delay g k (s.machine (g.from k)) (s.machine (g.to k)) ≤ s.start (g.to k)
+  pub apart : (a b : ℕ) → a < g.tasks → b < g.tasks → s.placed a ≡ true → s.placed b ≡ true → a ≢ b
+      → s.machine a ≡ s.machine b
+      → (s.start a + g.work a ≤ s.start b) ⊎ (s.start b + g.work b ≤ s.start a)

@@ -1,4 +1,4 @@
-use Rattle.std.specs.Prelude.{ℕ, zero, suc, max, Bool, true, false, cond, ◌&&◌, ◌||◌, ◌==◌, nat_lt}
+use Rattle.std.specs.Prelude.{ℕ, zero, suc, max, Bool, true, false, if◌then◌else◌, ◌&&◌, ◌||◌, ◌==◌, nat_lt, Some, None, Option}
 
 -- the greatest of f 0, .., f (n - 1), or 0 where n is 0
 abbrev pub top : ℕ → (ℕ → ℕ) → ℕ
@@ -18,8 +18,12 @@ any (suc n) f = any n f || f n
 -- the lowest number below n that passes, or n
 unfoldable pub first : ℕ → (ℕ → Bool) → ℕ
 first zero f = 0
-first (suc n) f = cond (nat_lt (first n f) n) (first n f) (cond (f n) n (suc n))
+first (suc n) f = if nat_lt (first n f) n then first n f else if f n then n else suc n
+
+-- the lowest number below n that passes, if one does
+abbrev pub lowest : ℕ → (ℕ → Bool) → Option ℕ
+lowest n f = if nat_lt (first n f) n then Some (first n f) else None
 
 -- f, but v at t
 abbrev pub put : {A : Type 0} → (ℕ → A) → ℕ → A → ℕ → A
-put f t v u = cond (u == t) v (f u)
+put f t v u = if u == t then v else f u

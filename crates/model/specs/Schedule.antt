@@ -1,4 +1,4 @@
-use Rattle.std.specs.Prelude.{◌≡◌, ℕ, ◌+◌, ◌<◌, ◌≤◌, cond, ◌≢◌, ◌⊎◌, ◌==◌}
+use Rattle.std.specs.Prelude.{◌≡◌, ℕ, ◌+◌, ◌<◌, ◌≤◌, if◌then◌else◌, ◌≢◌, ◌⊎◌, ◌==◌}
 use Rattle.model.specs.Range.{top}
 use Rattle.model.specs.Graph.{Graph}
 
@@ -9,7 +9,7 @@ pub record Schedule : Type 0 where
 
 -- what transfer k adds between machines a and b: its cost, or nothing on one machine
 abbrev pub delay : Graph → ℕ → ℕ → ℕ → ℕ
-delay g k a b = cond (a == b) 0 (g.cost k)
+delay g k a b = if a == b then 0 else g.cost k
 
 -- the greatest finish; a task finishes at its start plus its work
 abbrev pub makespan : Graph → Schedule → ℕ
@@ -19,5 +19,8 @@ makespan g p = top g.tasks (λ t. p.start t + g.work t)
 pub record Feasible (g : Graph) (p : Schedule) : Type 0 where
   pub on : (t : ℕ) → t < g.tasks → p.machine t < g.machines
   pub starts : (t : ℕ) → t < g.tasks → p.start t ≤ 64000
-  pub after : (k : ℕ) → k < g.count → p.start (g.from k) + g.work (g.from k) + delay g k (p.machine (g.from k)) (p.machine (g.to k)) ≤ p.start (g.to k)
-  pub apart : (a b : ℕ) → a < g.tasks → b < g.tasks → a ≢ b → p.machine a ≡ p.machine b → (p.start a + g.work a ≤ p.start b) ⊎ (p.start b + g.work b ≤ p.start a)
+  pub after : (k : ℕ) → k < g.count
+      → p.start (g.from k) + g.work (g.from k)
+      + delay g k (p.machine (g.from k)) (p.machine (g.to k)) ≤ p.start (g.to k)
+  pub apart : (a b : ℕ) → a < g.tasks → b < g.tasks → a ≢ b → p.machine a ≡ p.machine b
+      → (p.start a + g.work a ≤ p.start b) ⊎ (p.start b + g.work b ≤ p.start a)
