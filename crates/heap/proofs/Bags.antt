@@ -3,6 +3,7 @@ use Rattle.std.specs.List.Sorted.{IsPermutation}
 use Rattle.std.specs.List.{AllByRecursion}
 use native.Mathlib.Decide.{ℕ_discrete}
 use borrow.Author.Clash.{clash}
+use Rattle.std.proofs.Props.{props}
 use Rattle.std.proofs.ByRecursion.{All-weaker, All-from_get_or, All-get_or, all_shuffled}
 use Rattle.std.proofs.lemmas.List.Edits.{swap_is}
 use Rattle.std.proofs.lemmas.List.Sorted.{IsPermutation-refl, IsPermutation-trans, IsPermutation-cons, IsPermutation-swap, IsPermutation-keeps}
@@ -12,6 +13,11 @@ use Rattle.heap.specs.Bag.{insert, sorted, first, rest, InOrder}
 pub head : {X : Type 0} (l : List X) → 0 < length l → X
 head [] h = absurd (not-suc-le-zero h)
 head (x ∷ xs) h = x
+
+-- that a list is in order is a fact with one proof
+pub in-order-prop : {X : Type 0} (before : X → X → Bool) (l : List X) → IsProp (InOrder before l)
+in-order-prop before [] = hlevel
+in-order-prop before (x ∷ xs) = hlevel (props, in-order-prop before xs)
 
 -- a bag has as many entries as the list that it is of
 module _ {X : Type 0} (before : X → X → Bool) where

@@ -1,11 +1,11 @@
-use Rattle.std.proofs.Common.{◌≡◌, ℕ, suc, ◌+◌, ◌-◌, ◌/◌, ◌<◌, ◌≤◌, Bool, false, List, [], ◌∷◌, ◌++◌, length, get_or, take, drop, set, Some, sym, ap, ◌∙◌, subst, add-one, arith, length-append, take-append-drop, length-take-le, get_or-drop, drop-cons, get_or-set_other, get_or-take, take-suc, drop-drop, take-suc-set}
+use Rattle.std.proofs.Common.{◌≡◌, ℕ, zero, suc, ◌+◌, ◌<◌, ◌≤◌, Bool, false, List, [], ◌∷◌, ◌++◌, length, get_or, take, drop, set, Some, sym, refl, ap, ◌∙◌, subst, add-one, arith, length-append, take-append-drop, length-take-le, get_or-drop, get_or-take, take-suc, drop-drop, take-suc-set}
 use Rattle.std.specs.List.Sorted.{IsPermutation}
-use Rattle.std.specs.List.{AllByRecursion}
+use Rattle.std.specs.List.{AllByRecursion, slice_get}
 use Rattle.std.proofs.ByRecursion.{All-from_get_or}
 use Rattle.std.proofs.lemmas.List.Sorted.{IsPermutation-refl, IsPermutation-sym, IsPermutation-trans, IsPermutation-cons, IsPermutation-to_front, length_permutation}
 use Rattle.heap.specs.Order.{Total}
 use Rattle.heap.specs.Bag.{insert, sorted, first, rest}
-use Rattle.heap.specs.Slots.{HeapOrder, BelowTop, Rearranged}
+use Rattle.heap.specs.Slots.{HeapOrder, Rearranged}
 use Rattle.heap.proofs.Bags.{head, sorted-shuffled, sorted-least}
 use Rattle.heap.proofs.Sifting.{Swapped, arranged-none, arranged-more, top-first}
 
@@ -55,31 +55,32 @@ module _ {X : Type 0} where
       (IsPermutation-trans (take n ys) (get_or xs 0 d ∷ take m ys) (get_or xs 0 d ∷ take m zs) front (IsPermutation-cons (get_or xs 0 d) (take m ys) (take m zs) a.entries))
 
 module _ {X : Type 0} (before : X → X → Bool) (o : Total before) where
-  none_before : (xs : List X) (n : ℕ) (d : X) → n ≤ length xs → HeapOrder before xs n → AllByRecursion (λ y. before y (get_or xs 0 d) ≡ false) (take n xs)
+  none_before : (xs : List X) (n : ℕ) (d : X) → n ≤ length xs → HeapOrder before xs n → AllByRecursion (λ y. before y (get_or (take n xs) 0 d) ≡ false) (take n xs)
   none_before xs n d le h =
       let len = length-take-le n xs le in
-      All-from_get_or (λ y. before y (get_or xs 0 d) ≡ false) (take n xs) d
-      (λ k p. let q : k < n = omega arith in (λ i. before (get_or-take n xs k d q i) (get_or xs 0 d)) ∙ top-first before o xs n h k k (omega arith) q d)
+      All-from_get_or (λ y. before y (get_or (take n xs) 0 d) ≡ false) (take n xs) d
+      (λ k p. let q : k < n = omega arith in let z : 0 < n = omega arith in (λ i. before (get_or-take n xs k d q i) (get_or-take n xs 0 d z i)) ∙ top-first before o xs n h k k (omega arith) q d)
 
-  pub peeked : (xs : List X) (n : ℕ) (d : X) → 0 < n → n ≤ length xs → HeapOrder before xs n → Some (get_or xs 0 d) ≡ first (sorted before (take n xs))
-  peeked xs n d z le h =
-      let len = length-take-le n xs le in
-      let cut : take n xs ≡ get_or xs 0 d ∷ drop 1 (take n xs) = drop-cons (take n xs) 0 d (omega arith) ∙ ap (λ (x : X). x ∷ drop 1 (take n xs)) (get_or-take n xs 0 d z) in
-      sym (ap first (sorted-least before o (take n xs) (drop 1 (take n xs)) (get_or xs 0 d) (subst (IsPermutation (take n xs)) cut (IsPermutation-refl (take n xs))) (none_before xs n d le h)))
+  -- a first entry that none comes before is the first of the bag
+  first-led : (l : List X) → ((d : X) → AllByRecursion (λ y. before y (get_or l 0 d) ≡ false) l) → slice_get l 0 ≡ first (sorted before l)
+  first-led [] h = refl
+  first-led (x ∷ xs) h = sym (ap first (sorted-least before o (x ∷ xs) xs x (IsPermutation-refl (x ∷ xs)) (h x)))
+
+  pub peeked : (xs : List X) (n : ℕ) → n ≤ length xs → HeapOrder before xs n → slice_get (take n xs) 0 ≡ first (sorted before (take n xs))
+  peeked xs n le h = first-led (take n xs) (λ d. none_before xs n d le h)
+
+  -- where there is a first entry, there are entries
+  pub held : (xs : List X) (n : ℕ) (x : X) → Some x ≡ first (sorted before (take n xs)) → 0 < n
+  held xs zero x e = cc
+  held xs (suc n) x e = omega arith
 
   pub popped : (xs ys zs : List X) (n m : ℕ) → suc m ≡ n → n ≤ length xs → HeapOrder before xs n → Swapped xs ys 0 m → Rearranged m ys zs → sorted before (take m zs) ≡ rest (sorted before (take n xs))
   popped xs ys zs n m e le h s a =
       let d = head xs (omega arith) in
-      sym (ap rest (sorted-least before o (take n xs) (take m zs) (get_or xs 0 d) (left_over xs ys zs n m d e le s a) (none_before xs n d le h)))
+      sym (ap rest (sorted-least before o (take n xs) (take m zs) (get_or xs 0 d) (left_over xs ys zs n m d e le s a) (subst (λ (x : X). AllByRecursion (λ y. before y x ≡ false) (take n xs)) (get_or-take n xs 0 d (omega arith)) (none_before xs n d le h))))
 
   pub pushed : (xs zs : List X) (n : ℕ) (x : X) → n < length xs → Rearranged (n + 1) (set xs n x) zs → sorted before (take (n + 1) zs) ≡ insert before x (sorted before (take n xs))
   pushed xs zs n x h a =
       let cut : take (n + 1) (set xs n x) ≡ take n xs ++ x ∷ [] = ap (λ (k : ℕ). take k (set xs n x)) (add-one n) ∙ take-suc-set xs n x h in
       sorted-shuffled before o (take (n + 1) (set xs n x)) (take (n + 1) zs) a.entries ∙ ap (sorted before) cut
       ∙ sym (sorted-shuffled before o (take n xs ++ x ∷ []) (x ∷ take n xs) (IsPermutation-to_front (take n xs) x))
-
-  pub stored : (xs : List X) (n : ℕ) (x : X) → HeapOrder before xs n → HeapOrder before (set xs n x) n
-  stored xs n x h k f d = (λ i. before (get_or-set_other xs n k x d (omega arith) i) (get_or-set_other xs n ((k - 1) / 2) x d (omega arith) i)) ∙ h k f d
-
-  pub below_top : (xs ys : List X) (n m : ℕ) → suc m ≡ n → HeapOrder before xs n → Swapped xs ys 0 m → BelowTop before ys m
-  below_top xs ys n m e h s k l f d = (λ i. before (s.2 k d (omega arith) (omega arith) i) (s.2 ((k - 1) / 2) d (omega arith) (omega arith) i)) ∙ h k (omega arith) d

@@ -1,13 +1,9 @@
-use Rattle.std.proofs.Common.{◌≡◌, ℕ, ◌<◌, ◌≤◌, Bool, true, false, ◌⊎◌, sym, inl, inr, arith}
+use Rattle.std.proofs.Common.{◌≡◌, ℕ, ◌<◌, Bool, true, false, ◌⊎◌, sym, inl, inr, arith}
 use native.Mathlib.Decide.{ℕ_discrete, dec_lt}
 use Rattle.std.proofs.lemmas.Bool.{lt-ltb, le-ltb, eq-eqb, ne_eqb}
 use Rattle.heap.specs.Order.{Total}
-use Rattle.heap.specs.Pairs.{below}
+use Rattle.heap.specs.Pairs.{below, AtMost}
 use borrow.Author.Clash.{clash}
-
--- (c, d) is at most (a, b)
-abbrev pub AtMost : ℕ → ℕ → ℕ → ℕ → Type 0
-AtMost c d a b = (c < a) ⊎ ((c ≡ a) × (d ≤ b))
 
 module _ (a b c d : ℕ) where
   decided : ((below a b c d ≡ true) × ((a < c) ⊎ ((a ≡ c) × (b < d)))) ⊎ ((below a b c d ≡ false) × AtMost c d a b)

@@ -1,10 +1,10 @@
-use Rattle.std.proofs.Common.{◌≡◌, ℕ, zero, suc, ◌+◌, ◌*◌, ◌<◌, ◌≤◌, Bool, true, ◌≢◌, List, length, get_or, take, drop, set, sym, refl, ap, ◌∙◌, arith, length-take-le, get_or-take, drop-set-lt}
+use Rattle.std.proofs.Common.{◌≡◌, ℕ, zero, suc, ◌<◌, ◌≤◌, Bool, true, ◌≢◌, List, length, get_or, take, drop, set, sym, refl, ap, ◌∙◌, subst, arith, length-take-le, get_or-take, drop-set-lt}
 use native.Mathlib.Decide.{ℕ_discrete}
 use lib.Seq.{take-set-lt}
 use Rattle.std.proofs.lemmas.List.Sorted.{IsPermutation-refl, IsPermutation-trans, IsPermutation-swap}
 use Rattle.std.proofs.lemmas.List.Edits.{swap_is}
 use Rattle.heap.specs.Order.{Total}
-use Rattle.heap.specs.Slots.{parent, NotBefore, HeapOrder, BelowTop, LeastChild, Rearranged}
+use Rattle.heap.specs.Slots.{parent, NotBefore, HeapOrder, LeastChild, Rearranged}
 use Rattle.heap.proofs.Bags.{head, irreflexive}
 
 -- what `swap(i, j)` ensures, by places
@@ -98,18 +98,11 @@ module _ {X : Type 0} (before : X → X → Bool) (o : Total before) where
           ],
     )
 
-  -- slot 0 needs no proof
-  edges : (xs : List X) (n : ℕ) → ((k : ℕ) → 1 ≤ k → k < n → NotBefore before xs k (parent k)) → HeapOrder before xs n
-  edges xs n f k h = elim (ℕ_discrete k 0) [ yes e ↦ itself xs k (parent k) (omega arith) | no u ↦ f k (omega arith) h ]
-
-  pub rising : (xs : List X) (j : ℕ) → HeapOrder before xs j → Rising before xs j (j + 1)
-  rising xs j h = (λ k l f u. h k (omega arith), λ k l₁ l₂ f e. absurd (omega arith))
-
-  pub risen : (xs : List X) (j n : ℕ) → NotBefore before xs j (parent j) → Rising before xs j n → HeapOrder before xs n
-  risen xs j n t U = edges xs n (λ k l h. elim (ℕ_discrete k j) [
-    | yes e ↦ moved xs xs k (parent k) j (parent j) (stays xs k j e) (stays xs (parent k) (parent j) (ap parent e)) t
-    | no v ↦ U.0 k l h v
-  ])
+  -- the same for the slot above, under any name
+  pub rises_to : (xs ys : List X) (i j n : ℕ) → parent j ≡ i → Swapped xs ys i j → ((d : X) → before (get_or xs j d) (get_or xs i d) ≡ true) → 1 ≤ j → j < n → Rising before xs j n → Rising before ys i n
+  rises_to xs ys i j n e s t low high =
+      let at : ℕ → Type 0 = λ a. Swapped xs ys a j → ((d : X) → before (get_or xs j d) (get_or xs a d) ≡ true) → Rising before xs j n → Rising before ys a n in
+      subst at e (λ w u. rises xs ys j n w u low high) s t
 
   module _ (xs ys : List X) (j c n : ℕ) (s : Swapped xs ys j c) (t : (d : X) → before (get_or xs c d) (get_or xs j d) ≡ true) (low : 1 ≤ c) (high : c < n) (up : parent c ≡ j) (L : LeastChild before xs j c n) (S : Sinking before xs j n) where
     sinks-edge : (k : ℕ) → 1 ≤ k → k < n → parent k ≢ c → NotBefore before ys k (parent k)
@@ -131,27 +124,6 @@ module _ {X : Type 0} (before : X → X → Bool) (o : Total before) where
           moved xs ys k (parent c) k c (λ d. s.2 k d (omega arith) (omega arith)) (came xs ys (parent c) j c up s.0)
           (moved xs xs k c k (parent k) (stays xs k k refl) (stays xs c (parent k) (sym e)) (S.0 k l₂ h (omega arith))),
     )
-
-  pub sinking : (xs : List X) (n : ℕ) → BelowTop before xs n → Sinking before xs 0 n
-  sinking xs n h = (λ k l f u. h k (omega arith) f, λ k l₁ l₂ f e. absurd (omega arith))
-
-  pub sunk : (xs : List X) (j c n : ℕ) → NotBefore before xs c j → LeastChild before xs j c n → Sinking before xs j n → HeapOrder before xs n
-  sunk xs j c n t L S = edges xs n (λ k l h. elim (ℕ_discrete (parent k) j) [
-    | yes e ↦ moved xs xs k (parent k) k j (stays xs k k refl) (stays xs (parent k) j e) (over xs k c j (L k l h e) t)
-    | no v ↦ S.0 k l h v
-  ])
-
-  pub left-least : (xs : List X) (j left n : ℕ) → left ≡ 2 * j + 1 → (left + 1 < n → NotBefore before xs (left + 1) left) → LeastChild before xs j left n
-  left-least xs j left n is t k l h e = elim (ℕ_discrete k left) [
-    | yes q ↦ itself xs k left q
-    | no v ↦ let q : k ≡ left + 1 = omega arith in moved xs xs k left (left + 1) left (stays xs k (left + 1) q) (stays xs left left refl) (t (omega arith))
-  ]
-
-  pub right-least : (xs : List X) (j left n : ℕ) → left ≡ 2 * j + 1 → NotBefore before xs left (left + 1) → LeastChild before xs j (left + 1) n
-  right-least xs j left n is t k l h e = elim (ℕ_discrete k (left + 1)) [
-    | yes q ↦ itself xs k (left + 1) q
-    | no v ↦ let q : k ≡ left = omega arith in moved xs xs k (left + 1) left (left + 1) (stays xs k left q) (stays xs (left + 1) (left + 1) refl) t
-  ]
 
   -- none comes before slot 0
   pub top-first : (xs : List X) (n : ℕ) → HeapOrder before xs n → (fuel k : ℕ) → k ≤ fuel → k < n → NotBefore before xs k 0

@@ -1,4 +1,4 @@
-use Rattle.std.specs.Prelude.{◌≡◌, Bool, false, cond, List, [], ◌∷◌, Some, None, Option}
+use Rattle.std.specs.Prelude.{◌≡◌, Bool, false, if◌then◌else◌, List, [], ◌∷◌, Some, None, Option}
 use Rattle.std.specs.List.{AllByRecursion}
 
 -- A bag under a total order is told as the list of its entries in order.
@@ -6,7 +6,7 @@ use Rattle.std.specs.List.{AllByRecursion}
 -- the bag with e added
 abbrev pub insert : {X : Type 0} → (X → X → Bool) → X → List X → List X
 insert before e [] = e ∷ []
-insert before e (x ∷ xs) = cond (before x e) (x ∷ insert before e xs) (e ∷ x ∷ xs)
+insert before e (x ∷ xs) = if before x e then x ∷ insert before e xs else e ∷ x ∷ xs
 
 -- the bag of the entries of a list
 abbrev pub sorted : {X : Type 0} → (X → X → Bool) → List X → List X

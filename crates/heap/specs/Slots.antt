@@ -7,7 +7,8 @@ parent k = (k - 1) / 2
 
 -- slot k does not come before slot i
 abbrev pub NotBefore : {X : Type 0} → (X → X → Bool) → List X → ℕ → ℕ → Type 0
-NotBefore {X} before xs k i = (d : X) → before (slice_index_or xs k d) (slice_index_or xs i d) ≡ false
+NotBefore {X} before xs k i = (d : X)
+    → before (slice_index_or xs k d) (slice_index_or xs i d) ≡ false
 
 -- of the first n slots none comes before the one above it; slot 0 counts as above itself
 abbrev pub HeapOrder : {X : Type 0} → (X → X → Bool) → List X → ℕ → Type 0

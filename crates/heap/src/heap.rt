@@ -1,10 +1,109 @@
-pub mod calls;
-pub mod size;
+ghost use Rattle.std.specs.Prelude.{◌≡◌, ◌+◌, ◌≤◌, true, false, length, take, if◌then◌else◌, None, ◌==◌, nat_lt, slice_set};
+ghost use Rattle.heap.specs.Bag.{insert, first, rest};
+ghost use Rattle.heap.specs.Slots.{Rearranged};
 
-// A binary heap in lent slots: the first `count` slots hold its entries. The order in which they lie there is a
-// premise and a promise of its functions; a type that holds a heap keeps it in its invariant.
+use crate::order::TotalOrder;
+use crate::sift::{sift_down, sift_up};
+
+// A binary heap in lent slots: the first `count` slots hold its entries.
+// A rule of the project: memory below the programs is lent and fixed, so the slots in use are counted.
+// A rule of the project: the heap order is a premise and a promise; a type that holds a heap keeps it.
 #[derive(Drop)]
 pub struct Heap<'a, T> {
     slots: &'a mut [T],
     count: usize,
+    ghost within: { count ≤ length slots.now },
+}
+
+impl<T: TotalOrder> Heap<'_, T> {
+    ghost use Rattle.heap.specs.Meaning.{slots_of, bag_of, Heaped};
+
+    // An empty heap in slots that hold anything.
+    pub fn start(slots: &mut [T]) -> Heap<'_, T>
+        ensures slots { slots_of result ≡ slots.old }
+        ensures empty { result.count ≡ 0 }
+        ensures heaped { Heaped T.before result }
+    {
+        Heap { slots, count: 0 }
+    }
+
+    // The slots in use.
+    fn entries(&self) -> &[T]
+        ensures { result.now ≡ take self.now.count (slots_of self.now) }
+    {
+        &self.slots[..self.count]
+    }
+
+    // How many slots are in use.
+    pub fn len(&self) -> usize
+        ensures { result ≡ self.now.count }
+    {
+        self.entries().len()
+    }
+
+    // Whether no slot is in use.
+    pub fn is_empty(&self) -> bool
+        ensures { result ≡ (self.now.count == 0) }
+    {
+        self.entries().is_empty()
+    }
+
+    // How many slots there are.
+    pub fn capacity(&self) -> usize
+        ensures { result ≡ length (slots_of self.now) }
+    {
+        self.slots.len()
+    }
+
+    // Adds an entry; false, and nothing is changed, where all slots are in use.
+    pub fn push(&mut self, e: T) -> bool
+        requires { Heaped T.before self.old }
+        ensures is { result ≡ nat_lt self.old.count (length (slots_of self.old)) }
+        ensures bag { bag_of T.before self.new ≡ (if result
+            then insert T.before e (bag_of T.before self.old)
+            else bag_of T.before self.old) }
+        ensures heaped { Heaped T.before self.new }
+        ensures slots { result ≡ true → Rearranged (self.old.count + 1)
+            (slice_set (slots_of self.old) self.old.count e)
+            (slots_of self.new) }
+        ensures room { length (slots_of self.new) ≡ length (slots_of self.old) }
+        ensures refused { result ≡ false → self.new ≡ self.old }
+        ensures lender { self.new.slots.ghost_name ≡ self.old.slots.ghost_name }
+    {
+        let last = self.count;
+        if last == self.capacity() {
+            return false;
+        }
+        self.slots[last] = e;
+        sift_up(self.slots, last);
+        self.count += 1;
+        true
+    }
+
+    // The first entry in order.
+    pub fn peek(&self) -> Option<T>
+        requires { Heaped T.before self.now }
+        ensures { result ≡ first (bag_of T.before self.now) }
+    {
+        self.entries().first().copied()
+    }
+
+    // Takes the first entry in order; None, and nothing is changed, where there is none.
+    pub fn pop(&mut self) -> Option<T>
+        requires { Heaped T.before self.old }
+        ensures is { result ≡ first (bag_of T.before self.old) }
+        ensures bag { bag_of T.before self.new ≡ rest (bag_of T.before self.old) }
+        ensures heaped { Heaped T.before self.new }
+        ensures slots { Rearranged self.old.count (slots_of self.old) (slots_of self.new) }
+        ensures room { length (slots_of self.new) ≡ length (slots_of self.old) }
+        ensures empty { result ≡ None → self.new ≡ self.old }
+        ensures lender { self.new.slots.ghost_name ≡ self.old.slots.ghost_name }
+    {
+        let top = self.peek()?;
+        let last = self.count - 1;
+        self.slots.swap(0, last);
+        sift_down(self.slots, last);
+        self.count = last;
+        Some(top)
+    }
 }

@@ -1,4 +1,4 @@
-ghost use Rattle.std.specs.Prelude.{◌≡◌, ◌+◌, ◌*◌, ◌^◌, ◌<◌, ◌≤◌, length, slice_index_or};
+ghost use Rattle.std.specs.Prelude.{◌≡◌, ◌+◌, ◌*◌, ◌^◌, ◌<◌, ◌≤◌, length, slice_index_or, MatchOption};
 ghost use Rattle.heap.specs.Slots.{parent, HeapOrder, BelowTop, Rearranged, LeastChild};
 
 use crate::order::TotalOrder;
@@ -11,6 +11,13 @@ fn is_before<T: TotalOrder>(s: &[T], a: usize, b: usize) -> bool
     s[a].comes_before(&s[b])
 }
 
+// The slot above slot j; there is none above slot 0.
+fn slot_above(j: usize) -> Option<usize>
+    ensures { MatchOption result (j ≡ 0) (λ k. (k < j) × (parent j ≡ k)) }
+{
+    j.checked_sub(1).map(|k| k / 2)
+}
+
 // Moves the entry of slot `last` up to its place: the slots below it are a heap, and then it is one of them.
 pub(crate) fn sift_up<T: TotalOrder>(s: &mut [T], last: usize)
     requires within { last < length s.old }
@@ -19,9 +26,12 @@ pub(crate) fn sift_up<T: TotalOrder>(s: &mut [T], last: usize)
     ensures slots { Rearranged (last + 1) s.old s.new }
 {
     let mut at = last;
-    while 0 < at && is_before(s, at, (at - 1) / 2) {
-        s.swap((at - 1) / 2, at);
-        at = (at - 1) / 2;
+    while let Some(above) = slot_above(at) {
+        if !is_before(s, at, above) {
+            break;
+        }
+        s.swap(above, at);
+        at = above;
     }
 }
 
@@ -33,17 +43,20 @@ fn left_child(j: usize) -> usize
     j * 2 + 1
 }
 
-// The child of slot j, among the first n slots, whose entry comes first.
-fn least_child<T: TotalOrder>(s: &[T], j: usize, n: usize) -> usize
-    requires within { (2 * j + 1 < n) × (n ≤ length s.now) }
-    ensures child { (1 ≤ result) × (result < n) × (parent result ≡ j) }
-    ensures least { LeastChild T.before s.now j result n }
+// The child of slot j, among the first n slots, whose entry comes first; None where it has no child there.
+fn least_child<T: TotalOrder>(s: &[T], j: usize, n: usize) -> Option<usize>
+    requires { n ≤ length s.now }
+    ensures { MatchOption result (n ≤ 2 * j + 1)
+        (λ c. (1 ≤ c) × (c < n) × (parent c ≡ j) × LeastChild T.before s.now j c n) }
 {
+    if n / 2 <= j {
+        return None;
+    }
     let left = left_child(j);
     if left + 1 < n && is_before(s, left + 1, left) {
-        left + 1
+        Some(left + 1)
     } else {
-        left
+        Some(left)
     }
 }
 
@@ -55,10 +68,9 @@ pub(crate) fn sift_down<T: TotalOrder>(s: &mut [T], n: usize)
     ensures slots { Rearranged n s.old s.new }
 {
     let mut at = 0;
-    while at < n / 2 {
-        let child = least_child(s, at, n);
+    while let Some(child) = least_child(s, at, n) {
         if !is_before(s, child, at) {
-            return;
+            break;
         }
         s.swap(at, child);
         at = child;

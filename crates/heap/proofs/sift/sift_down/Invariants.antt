@@ -3,8 +3,8 @@ use Rattle.heap.specs.Slots.{Rearranged}
 use Rattle.heap.proofs.Sifting.{Sinking}
 use Rattle.heap.proofs.sift.sift_down.Given as goal
 
-abbrev pub invariant-loop-at : goal.invariant-loop-at
-invariant-loop-at g l = Sinking g.T.TotalOrder.before l.s l.«at» l.n × Rearranged l.n l.initial.s l.s
+abbrev pub invariant-loop-child : goal.invariant-loop-child
+invariant-loop-child g l = Sinking g.T.TotalOrder.before l.s l.«at» l.n × Rearranged l.n l.initial.s l.s
 
-abbrev pub decreases-loop-at : goal.decreases-loop-at
-decreases-loop-at g l = l.n - l.«at»
+abbrev pub decreases-loop-child : goal.decreases-loop-child
+decreases-loop-child g l = l.n - l.«at»
