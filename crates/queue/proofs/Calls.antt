@@ -1,14 +1,25 @@
-use Rattle.std.proofs.Common.{◌≡◌, Bool, true, false, cond, List, [], ◌∷◌, Some, Option, sym, refl, ap, ◌∙◌, subst, arith}
+use Rattle.std.proofs.Common.{◌≡◌, ℕ, nat_lt, length, Bool, true, false, cond, List, [], ◌∷◌, Some, Option, sym, refl, ap, ◌∙◌, subst, arith}
 use Rattle.std.specs.List.Sorted.{IsPermutation}
 use Rattle.std.specs.List.{AllByRecursion}
 use Rattle.std.proofs.ByRecursion.{All-weaker}
 use Rattle.std.proofs.lemmas.List.Sorted.{IsPermutation-refl}
 use Rattle.heap.specs.Order.{Total}
 use Rattle.heap.specs.Bag.{insert, first, rest, InOrder}
-use Rattle.heap.proofs.Bags.{insert-adds, first-least}
+use Rattle.heap.specs.Meaning.{slots_of, bag_of}
+use Rattle.heap.specs.declared.heap.Heap.{Heap}
+use Rattle.heap.proofs.Bags.{length-bag, insert-adds, first-least}
 use Rattle.queue.specs.Bags.{Shows, Takes}
 
 module _ {X : Type 0} (before : X → X → Bool) where
+  -- a heap has as many entries as its bag
+  pub counted : (h : Heap X) → h.count ≡ length (bag_of before h)
+  counted h = sym (length-bag before (slots_of h) h.count h.within)
+
+  -- so a bag has room for one more where the slots are not all in use
+  pub has_room : (h : Heap X) (r : Bool) → r ≡ nat_lt h.count (length (slots_of h)) → r ≡ nat_lt (length (bag_of before h)) (length (slots_of h))
+  has_room h r is = is ∙ ap (λ (n : ℕ). nat_lt n (length (slots_of h))) (counted h)
+
+  -- what is put is added
   pub adds : (e : X) (b c : List X) (r : Bool) → c ≡ cond r (insert before e b) b → r ≡ true → IsPermutation (e ∷ b) c
   adds e b c r is t = subst (IsPermutation (e ∷ b)) (sym (is ∙ ap (λ (s : Bool). cond s (insert before e b) b) t)) (insert-adds before e b)
 

@@ -1,5 +1,5 @@
-use Rattle.std.specs.Prelude.{◌≡◌, ◌<◌, ◌≤◌, Bool, ◌⊎◌}
-use Rattle.heap.specs.Pairs.{below}
+use Rattle.std.specs.Prelude.{ℕ, Bool, List, ◌++◌, codes, decimal}
+use Rattle.heap.specs.Pairs.{below, AtMost}
 use Rattle.queue.specs.declared.entry.Entry.{Entry}
 
 -- the lesser bound comes first, among equals the greater node number
@@ -8,4 +8,8 @@ entry_before x y = below x.bound y.node y.bound x.node
 
 -- x has a lesser bound than y, or the same and no lesser node number
 abbrev pub EntryLeads : Entry → Entry → Type 0
-EntryLeads x y = (x.bound < y.bound) ⊎ ((x.bound ≡ y.bound) × (y.node ≤ x.node))
+EntryLeads x y = AtMost x.bound y.node y.bound x.node
+
+-- an entry as text, as `3/17`: its bound, then its node
+abbrev pub entry_text : Entry → List ℕ
+entry_text e = decimal e.bound ++ (codes "/" ++ decimal e.node)

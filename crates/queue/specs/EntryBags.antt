@@ -10,10 +10,14 @@ use Rattle.queue.specs.Entries.{entry_before}
 -- Lemmas that the ghost members of open lists cite.
 
 pub entries-ordered : Total entry_before
-entries-ordered = ascending (λ (x : Entry). x.bound) (λ x. x.node) (λ x y p q t. record { bound = p t; node = q t })
+entries-ordered =
+    ascending (λ (x : Entry). x.bound) (λ x. x.node)
+    (λ x y p q t. record { bound = p t; node = q t })
 
-pub slots-ordered : (xs : List Entry) (n : ℕ) → InOrder entry_before (sorted entry_before (take n xs))
+pub slots-ordered : (xs : List Entry) (n : ℕ)
+    → InOrder entry_before (sorted entry_before (take n xs))
 slots-ordered xs n = sorted-in-order entry_before entries-ordered (take n xs)
 
-pub slots-bounded : (xs : List Entry) (n : ℕ) → n ≤ length xs → length (sorted entry_before (take n xs)) ≤ length xs
-slots-bounded xs n h = let P : ℕ → Type 0 = λ k. k ≤ length xs in subst P (sym (length-bag entry_before xs n h)) h
+pub slots-bounded : (xs : List Entry) (n : ℕ) → n ≤ length xs
+    → length (sorted entry_before (take n xs)) ≤ length xs
+slots-bounded xs n h = subst (λ (k : ℕ). k ≤ length xs) (sym (length-bag entry_before xs n h)) h

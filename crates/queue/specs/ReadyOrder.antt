@@ -6,4 +6,6 @@ use Rattle.queue.specs.ReadyTasks.{ready_before}
 -- The lemma that the ghost members of a ready task cite.
 
 pub tasks-ordered : Total ready_before
-tasks-ordered = reversed (λ x y. ready_before y x) (ascending (λ (x : ReadyTask). x.level) (λ x. x.task) (λ x y p q t. record { level = p t; task = q t }))
+tasks-ordered = reversed (λ x y. ready_before y x)
+    (ascending (λ (x : ReadyTask). x.level) (λ x. x.task)
+    (λ x y p q t. record { level = p t; task = q t }))

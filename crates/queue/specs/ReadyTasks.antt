@@ -1,5 +1,5 @@
-use Rattle.std.specs.Prelude.{◌≡◌, ◌<◌, ◌≤◌, Bool, ◌⊎◌}
-use Rattle.heap.specs.Pairs.{below}
+use Rattle.std.specs.Prelude.{Bool}
+use Rattle.heap.specs.Pairs.{below, AtMost}
 use Rattle.queue.specs.declared.ready.ReadyTask.{ReadyTask}
 
 -- the greater bottom level comes first, among equals the lower task number
@@ -8,4 +8,4 @@ ready_before x y = below y.level x.task x.level y.task
 
 -- x has a greater bottom level than y, or the same and no greater number
 abbrev pub ReadyLeads : ReadyTask → ReadyTask → Type 0
-ReadyLeads x y = (y.level < x.level) ⊎ ((y.level ≡ x.level) × (x.task ≤ y.task))
+ReadyLeads x y = AtMost y.level x.task x.level y.task

@@ -1,6 +1,5 @@
-ghost use Rattle.std.specs.Prelude.{◌≡◌, ◌≤◌, [], length};
-ghost use Rattle.heap.specs.Slots.{HeapOrder};
-ghost use Rattle.heap.specs.Meaning.{slots_of, bag_of};
+ghost use Rattle.std.specs.Prelude.{◌≡◌, [], length};
+ghost use Rattle.heap.specs.Meaning.{slots_of, bag_of, Heaped};
 ghost use Rattle.queue.specs.Entries.{entry_before};
 ghost use Rattle.queue.specs.EntryBags.{slots-ordered, slots-bounded};
 
@@ -9,11 +8,11 @@ use crate::open_list::OpenList;
 use heap::heap::Heap;
 
 // An open list as a heap in lent slots. That the slots are in heap order is part of the type.
+// A rule of the project: each kind of entry has a heap type of its own, as `ReadyHeap` for tasks.
 #[derive(Drop)]
 pub struct EntryHeap<'a> {
     heap: Heap<'a, Entry>,
-    ghost within: { heap.count ≤ length (slots_of heap) },
-    ghost order: { HeapOrder entry_before (slots_of heap) heap.count },
+    ghost heaped: { Heaped entry_before heap },
 }
 
 impl EntryHeap<'_> {
@@ -34,7 +33,7 @@ impl OpenList for EntryHeap<'_> {
 
     ghost ordered = { λ s. slots-ordered (slots_of s.heap) s.heap.count };
 
-    ghost bounded = { λ s. slots-bounded (slots_of s.heap) s.heap.count s.within };
+    ghost bounded = { λ s. slots-bounded (slots_of s.heap) s.heap.count s.heap.within };
 
     fn put(&mut self, e: Entry) -> bool {
         self.heap.push(e)

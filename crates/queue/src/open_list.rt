@@ -7,7 +7,9 @@ ghost use Rattle.queue.specs.Entries.{entry_before, EntryLeads};
 
 use crate::entry::Entry;
 
-// An open list: a bag of entries with a limit on their number. The bag is told as the list of its entries in order.
+// An open list: a bag of entries with a limit on their number. The bag is told as the list of its entries
+// in order.
+// A rule of the project: calls that change nothing take `&mut self` too, and say what they leave.
 pub trait OpenList {
     ghost bag: { Self → List Entry };
 
@@ -21,7 +23,9 @@ pub trait OpenList {
     // Adds an entry; false, and nothing is changed, where the list is full.
     fn put(&mut self, e: Entry) -> bool
         ensures is { result ≡ nat_lt (length (bag self.old)) (limit self.old) }
-        ensures after { bag self.new ≡ (if result then insert entry_before e (bag self.old) else bag self.old) }
+        ensures after { bag self.new ≡ (if result
+            then insert entry_before e (bag self.old)
+            else bag self.old) }
         ensures same_limit { limit self.new ≡ limit self.old }
         ensures adds { result ≡ true → IsPermutation (e ∷ bag self.old) (bag self.new) }
         ensures refused { result ≡ false → self.new ≡ self.old };

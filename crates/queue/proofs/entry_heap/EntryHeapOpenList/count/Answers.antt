@@ -1,8 +1,7 @@
-use Rattle.std.proofs.Common.{sym, refl, ◌∙◌}
-use Rattle.heap.specs.Meaning.{slots_of}
-use Rattle.heap.proofs.Bags.{length-bag}
+use Rattle.std.proofs.Common.{◌∙◌}
 use Rattle.queue.specs.Entries.{entry_before}
+use Rattle.queue.proofs.Calls.{counted}
 use Rattle.queue.proofs.entry_heap.EntryHeapOpenList.count.Goals as goal
 
-pub returns : goal.returns
-returns c = let h = c.args.self.now.heap in record { is = c.len.ensures ∙ sym (length-bag entry_before (slots_of h) h.count c.args.self.now.within); same = refl }
+pub returns-clause-is : goal.returns-clause-is
+returns-clause-is c = c.len.ensures ∙ counted entry_before c.args.self.now.heap

@@ -1,11 +1,8 @@
-use Rattle.std.proofs.Common.{refl}
 use Rattle.heap.specs.Meaning.{slots_of, bag_of}
 use Rattle.queue.specs.Entries.{entry_before}
 use Rattle.queue.specs.EntryBags.{slots-ordered}
 use Rattle.queue.proofs.EntryCalls.{shows}
 use Rattle.queue.proofs.entry_heap.EntryHeapOpenList.look.Goals as goal
 
-pub returns : goal.returns
-returns c =
-    let h = c.args.self.now.heap in
-    record { is = c.peek.ensures; same = refl; shows = shows (bag_of entry_before h) c.peek.result c.peek.ensures (slots-ordered (slots_of h) h.count) }
+pub returns-clause-shows : goal.returns-clause-shows
+returns-clause-shows c = let h = c.args.self.now.heap in shows (bag_of entry_before h) c.peek.result c.peek.ensures (slots-ordered (slots_of h) h.count)
