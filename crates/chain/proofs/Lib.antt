@@ -1,3 +1,5 @@
 mod Walks
 mod Linking
-mod Keeping
+mod Inside
+mod Putting
+mod Unchanged

@@ -1,11 +1,12 @@
 use Rattle.std.proofs.Common.{◌≡◌, ℕ, zero, suc, ◌+◌, ◌-◌, ◌<◌, ◌≤◌, true, false, cond, eqb, List, ◌∷◌, ◌++◌, length, get_or, take, drop, set, sym, refl, ap, ◌∙◌, subst, le_of_suc-le-suc, not-suc-le-zero, add-one, arith, length-set, take-append-drop, get_or-set_other, get_or-set_same}
 use native.Mathlib.Decide.{dec_lt}
+use Rattle.std.proofs.lemmas.List.{map-append}
 use Rattle.heap.specs.Bag.{insert, rest}
 use Rattle.queue.specs.declared.entry.Entry.{Entry}
 use Rattle.chain.specs.declared.cell.Cell.{Cell}
 use Rattle.queue.specs.Entries.{entry_before}
 use Rattle.chain.specs.Cells.{blank, after, entry_at, onward, walk, entries_at, occurs, numbers, Apart}
-use Rattle.chain.proofs.Walks.{once-here, occurs-append, walk-other, entries-other, entries-same, entries-append, onward-met}
+use Rattle.chain.proofs.Walks.{once-here, occurs-append, walk-other, entries-other, entries-same, onward-met}
 
 -- a number that is met is that of a cell
 met-inside : (xs : List Cell) (h f n x : ℕ) → Apart xs h f n → 1 ≤ occurs x (numbers xs h f n) → x < length xs
@@ -209,36 +210,39 @@ module _ (xs : List Cell) (h f n j : ℕ) (e : Entry) (was : Apart xs h f n) (ro
       let a = same_entries xs f prev next e f-in p-in prev-apart (take (suc j) (walk xs n h)) (omega (arith, parts f)) in
       let b : entry_at behind f ≡ e = ap (λ (k : Cell). k.entry) (at-fresh xs f prev next e f-in p-in prev-apart) in
       let d = same_entries xs f prev next e f-in p-in prev-apart (drop (suc j) (walk xs n h)) (omega (arith, parts f)) in
-      ap (entries_at behind) behind-used ∙ entries-append behind (take (suc j) (walk xs n h)) (f ∷ drop (suc j) (walk xs n h)) ∙ (λ t. a t ++ (b t ∷ d t)) ∙ placed-chain xs e j n h lt pass stop
+      ap (entries_at behind) behind-used ∙ map-append (entry_at behind) (take (suc j) (walk xs n h)) (f ∷ drop (suc j) (walk xs n h)) ∙ (λ t. a t ++ (b t ∷ d t)) ∙ placed-chain xs e j n h lt pass stop
 
--- What the calls leave, told by equations of what they read and stored.
+-- what the calls leave
 
-pub take-leaves : (xs ys : List Cell) (h f n : ℕ) (c : Cell) → Apart xs h f n → 0 < n → c ≡ get_or xs h blank → ys ≡ set xs h (record { entry = c.entry; next = f })
-    → Apart ys c.next h (n - 1) × (entries_at ys (walk ys (n - 1) c.next) ≡ rest (entries_at xs (walk xs n h)))
-take-leaves xs ys h f n c was some e s =
-    let k : suc (n - 1) ≡ n = omega arith in
-    let full = subst (Apart xs h f) (sym k) was in
-    let is : ys ≡ freed xs h f (n - 1) full = s ∙ (λ t. set xs h (record { entry = (e t).entry; next = f })) in (
-      subst (λ (d : List Cell). Apart d c.next h (n - 1)) (sym is) (subst (λ (d : Cell). Apart (freed xs h f (n - 1) full) d.next h (n - 1)) (sym e) (taken-apart xs h f (n - 1) full)),
-      (λ t. entries_at (is t) (walk (is t) (n - 1) (e t).next)) ∙ taken-chain xs h f (n - 1) full ∙ ap (λ (m : ℕ). rest (entries_at xs (walk xs m h))) k,
-    )
+pub take-leaves : (xs : List Cell) (h f n : ℕ) → Apart xs h f n → 0 < n
+    → Apart (set xs h (record { entry = entry_at xs h; next = f })) (after xs h) h (n - 1)
+    × (entries_at (set xs h (record { entry = entry_at xs h; next = f })) (walk (set xs h (record { entry = entry_at xs h; next = f })) (n - 1) (after xs h)) ≡ rest (entries_at xs (walk xs n h)))
+take-leaves xs h f zero was some = absurd (omega arith)
+take-leaves xs h f (suc m) was some =
+    let e : m ≡ suc m - 1 = omega arith in
+    let ys = set xs h (record { entry = entry_at xs h; next = f }) in
+    let at = λ (k : ℕ). Apart ys (after xs h) h k × (entries_at ys (walk ys k (after xs h)) ≡ rest (entries_at xs (walk xs (suc m) h))) in
+    subst at e (taken-apart xs h f m was, taken-chain xs h f m was)
 
-pub front-leaves : (xs ys : List Cell) (h f n free : ℕ) (e : Entry) → Apart xs h f n → n < length xs → free ≡ after xs f → ys ≡ set xs f (record { entry = e; next = h }) → (0 < n → entry_before (entry_at xs h) e ≡ false)
-    → Apart ys f free (n + 1) × (entries_at ys (walk ys (n + 1) f) ≡ insert entry_before e (entries_at xs (walk xs n h)))
-front-leaves xs ys h f n free e was room u is stop = (
-  rw add-one (subst (λ (d : List Cell). Apart d f free (suc n)) (sym is) (subst (λ (x : ℕ). Apart (set xs f (record { entry = e; next = h })) f x (suc n)) (sym u) (front-apart xs h f n was room e))),
-  rw add-one (ap (λ (d : List Cell). entries_at d (walk d (suc n) f)) is ∙ front-chain xs h f n was room e stop),
-)
+pub front-leaves : (xs : List Cell) (h f n : ℕ) (e : Entry) → Apart xs h f n → n < length xs → (0 < n → entry_before (entry_at xs h) e ≡ false)
+    → Apart (set xs f (record { entry = e; next = h })) f (after xs f) (n + 1)
+    × (entries_at (set xs f (record { entry = e; next = h })) (walk (set xs f (record { entry = e; next = h })) (n + 1) f) ≡ insert entry_before e (entries_at xs (walk xs n h)))
+front-leaves xs h f n e was room stop = (rw add-one (front-apart xs h f n was room e), rw add-one (front-chain xs h f n was room e stop))
 
-pub behind-leaves : (xs ys zs : List Cell) (h h' f n j prev next free : ℕ) (e kept : Entry) → Apart xs h f n → n < length xs → j < n → prev ≡ onward xs j h → next ≡ onward xs (suc j) h
-    → kept ≡ entry_at xs prev → free ≡ after xs f → ys ≡ set xs f (record { entry = e; next = next }) → zs ≡ set ys prev (record { entry = kept; next = f }) → h' ≡ h
-    → ((i : ℕ) → i < suc j → entry_before (entry_at xs (onward xs i h)) e ≡ true) → (suc j < n → entry_before (entry_at xs next) e ≡ false)
-    → Apart zs h' free (n + 1) × (entries_at zs (walk zs (n + 1) h') ≡ insert entry_before e (entries_at xs (walk xs n h)))
-behind-leaves xs ys zs h h' f n j prev next free e kept was room lt p q k u s₁ s₂ same pass stop =
-    let is : zs ≡ spliced xs f (onward xs j h) (onward xs (suc j) h) e =
-    s₂ ∙ (λ t. set (s₁ t) prev (record { entry = k t; next = f })) ∙ (λ t. set (set xs f (record { entry = e; next = q t })) (p t) (record { entry = entry_at xs (p t); next = f })) in (
-      rw add-one (subst (λ (d : List Cell). Apart d h' free (suc n)) (sym is)
-          (subst (λ (x : ℕ). Apart (spliced xs f (onward xs j h) (onward xs (suc j) h) e) h' x (suc n)) (sym u)
-          (subst (λ (x : ℕ). Apart (spliced xs f (onward xs j h) (onward xs (suc j) h) e) x (after xs f) (suc n)) (sym same) (behind-apart xs h f n j e was room lt)))),
-      rw add-one ((λ t. entries_at (is t) (walk (is t) (suc n) (same t))) ∙ behind-chain xs h f n j e was room lt pass (λ m. ap (λ (x : ℕ). entry_before (entry_at xs x) e) (sym q) ∙ stop m)),
+-- the cells with e in the free cell f, behind the cell `prev` and before the cell `next`
+abbrev pub linked_in : List Cell → ℕ → ℕ → ℕ → Entry → List Cell
+linked_in xs f prev next e = let ys = set xs f (record { entry = e; next = next }) in set ys prev (record { entry = entry_at ys prev; next = f })
+
+pub behind-leaves : (xs : List Cell) (h f n j : ℕ) (e : Entry) → Apart xs h f n → n < length xs → j < n
+    → ((i : ℕ) → i < suc j → entry_before (entry_at xs (onward xs i h)) e ≡ true) → (suc j < n → entry_before (entry_at xs (onward xs (suc j) h)) e ≡ false)
+    → Apart (linked_in xs f (onward xs j h) (onward xs (suc j) h) e) h (after xs f) (n + 1)
+    × (entries_at (linked_in xs f (onward xs j h) (onward xs (suc j) h) e) (walk (linked_in xs f (onward xs j h) (onward xs (suc j) h) e) (n + 1) h) ≡ insert entry_before e (entries_at xs (walk xs n h)))
+behind-leaves xs h f n j e was room lt pass stop =
+    let prev = onward xs j h in
+    let next = onward xs (suc j) h in
+    let fresh : Cell = record { entry = e; next = next } in
+    let k : entry_at (set xs f fresh) prev ≡ entry_at xs prev = ap (λ (d : Cell). d.entry) (get_or-set_other xs f prev fresh blank (λ u. prev-apart xs h f n j e was room lt (sym u))) in
+    let is : linked_in xs f prev next e ≡ spliced xs f prev next e = (λ t. set (set xs f fresh) prev (record { entry = k t; next = f })) in (
+      rw add-one (subst (λ (d : List Cell). Apart d h (after xs f) (suc n)) (sym is) (behind-apart xs h f n j e was room lt)),
+      rw add-one (subst (λ (d : List Cell). entries_at d (walk d (suc n) h) ≡ insert entry_before e (entries_at xs (walk xs n h))) (sym is) (behind-chain xs h f n j e was room lt pass stop)),
     )

@@ -1,9 +1,8 @@
-use Rattle.std.proofs.Common.{◌≡◌, ℕ, zero, suc, ◌+◌, ◌<◌, ◌≤◌, cond, eqb, List, [], ◌∷◌, ◌++◌, length, get_or, set, sym, refl, ap, ◌∙◌, le_of_suc-le-suc, not-suc-le-zero, arith, get_or-set_other, get_or-set_same}
+use Rattle.std.proofs.Common.{◌≡◌, ℕ, zero, suc, ◌+◌, ◌<◌, ◌≤◌, cond, eqb, List, [], ◌∷◌, ◌++◌, length, set, sym, refl, ap, ◌∙◌, le_of_suc-le-suc, not-suc-le-zero, add-one, arith, get_or-set_other, get_or-set_same}
 use native.Mathlib.Decide.{ℕ_discrete}
 use Rattle.std.proofs.lemmas.Bool.{eq-eqb, ne_eqb}
-use Rattle.queue.specs.declared.entry.Entry.{Entry}
 use Rattle.chain.specs.declared.cell.Cell.{Cell}
-use Rattle.chain.specs.Cells.{blank, after, entry_at, strung, onward, walk, entries_at, occurs}
+use Rattle.chain.specs.Cells.{blank, after, entry_at, onward, walk, entries_at, occurs}
 
 -- counting numbers in lists
 
@@ -49,10 +48,6 @@ entries-same cells i c (j ∷ js) h e =
     let b = entries-same cells i c js h e in
     (λ t. a t ∷ b t)
 
-pub entries-append : (xs : List Cell) (is js : List ℕ) → entries_at xs (is ++ js) ≡ entries_at xs is ++ entries_at xs js
-entries-append xs [] js = refl
-entries-append xs (i ∷ is) js = ap (λ (l : List Entry). entry_at xs i ∷ l) (entries-append xs is js)
-
 -- steps along a walk
 
 pub onward-met : (xs : List Cell) (k n at : ℕ) → k < n → 1 ≤ occurs (onward xs k at) (walk xs n at)
@@ -63,6 +58,9 @@ onward-met xs (suc k) (suc n) at h = omega (arith, onward-met xs k n (after xs a
 pub onward-more : (xs : List Cell) (k at : ℕ) → onward xs (suc k) at ≡ after xs (onward xs k at)
 onward-more xs zero at = refl
 onward-more xs (suc k) at = onward-more xs k (after xs at)
+
+pub step-more : (xs : List Cell) (k h at : ℕ) → at ≡ onward xs k h → after xs at ≡ onward xs (k + 1) h
+step-more xs k h at e = ap (after xs) e ∙ sym (onward-more xs k h) ∙ ap (λ (n : ℕ). onward xs n h) (sym (add-one k))
 
 -- a walk along cells that each name the one behind it in memory
 pub strung-walk : (xs : List Cell) (m at : ℕ) → ((k : ℕ) → at ≤ k → k < at + m → after xs k ≡ k + 1) → (x : ℕ)
@@ -75,16 +73,3 @@ strung-walk xs (suc m) at h x =
       | yes e ↦ let s = once-here x at e in let z = ih.1 (omega arith) in (omega arith, λ p. absurd (omega arith), λ p. absurd (omega arith))
       | no n ↦ let s = not-here x at n in (omega (arith, ih.0), λ p. omega (arith, ih.1 (omega arith)), λ p. omega (arith, ih.2 (omega arith)))
     ]
-
--- one more cell is strung up; the others wait
-pub strung-more : (ys xs : List Cell) (i : ℕ) → i < length xs → ((k : ℕ) → k < i → get_or xs k blank ≡ strung ys k) → ((k : ℕ) → i ≤ k → get_or xs k blank ≡ get_or ys k blank)
-    → ((k : ℕ) → k < i + 1 → get_or (set xs i (record { entry = entry_at xs i; next = i + 1 })) k blank ≡ strung ys k)
-    × ((k : ℕ) → i + 1 ≤ k → get_or (set xs i (record { entry = entry_at xs i; next = i + 1 })) k blank ≡ get_or ys k blank)
-strung-more ys xs i h done wait = (
-  λ k l. elim (ℕ_discrete k i) [
-    | yes e ↦ ap (λ (j : ℕ). get_or (set xs i (record { entry = entry_at xs i; next = i + 1 })) j blank) e ∙ get_or-set_same xs i (record { entry = entry_at xs i; next = i + 1 }) blank h
-        ∙ (λ t. record { entry = (wait i (omega arith) t).entry; next = i + 1 }) ∙ ap (strung ys) (sym e)
-    | no n ↦ get_or-set_other xs i k (record { entry = entry_at xs i; next = i + 1 }) blank n ∙ done k (omega arith)
-  ],
-  λ k l. get_or-set_other xs i k (record { entry = entry_at xs i; next = i + 1 }) blank (omega arith) ∙ wait k (omega arith),
-)

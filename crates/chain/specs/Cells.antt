@@ -1,4 +1,4 @@
-use Rattle.std.specs.Prelude.{◌≡◌, ℕ, zero, suc, ◌+◌, ◌-◌, ◌≤◌, cond, List, [], ◌∷◌, ◌++◌, length, ◌==◌, slice_index_or}
+use Rattle.std.specs.Prelude.{◌≡◌, ℕ, zero, suc, ◌+◌, ◌-◌, ◌<◌, ◌≤◌, map, if◌then◌else◌, List, [], ◌∷◌, ◌++◌, length, ◌==◌, slice_index_or}
 use Rattle.queue.specs.declared.entry.Entry.{Entry}
 use Rattle.chain.specs.declared.cell.Cell.{Cell}
 
@@ -18,6 +18,10 @@ entry_at cells at = (slice_index_or cells at blank).entry
 abbrev pub strung : List Cell → ℕ → Cell
 strung cells k = record { entry = entry_at cells k; next = k + 1 }
 
+-- as many cells as were lent hold what they held, and each names the one behind it in memory
+abbrev pub StrungUp : List Cell → List Cell → Type 0
+StrungUp lent cells = (k : ℕ) → k < length lent → slice_index_or cells k blank ≡ strung lent k
+
 -- the cell that is k steps on
 abbrev pub onward : List Cell → ℕ → ℕ → ℕ
 onward cells zero at = at
@@ -30,15 +34,15 @@ walk cells (suc n) at = at ∷ walk cells n (after cells at)
 
 -- what these cells hold
 abbrev pub entries_at : List Cell → List ℕ → List Entry
-entries_at cells [] = []
-entries_at cells (i ∷ is) = entry_at cells i ∷ entries_at cells is
+entries_at cells is = map (entry_at cells) is
 
 -- how often a number stands in a list
 abbrev pub occurs : ℕ → List ℕ → ℕ
 occurs x [] = 0
-occurs x (y ∷ ys) = cond (x == y) 1 0 + occurs x ys
+occurs x (y ∷ ys) = (if x == y then 1 else 0) + occurs x ys
 
--- the numbers of the n cells in use, chained from the head on, then of the others, chained from the first free one on
+-- the numbers of the n cells in use, chained from the head on, then of the others, chained from the first
+-- free one on
 abbrev pub numbers : List Cell → ℕ → ℕ → ℕ → List ℕ
 numbers cells head free n = walk cells n head ++ walk cells (length cells - n) free
 

@@ -1,23 +1,21 @@
-ghost use Rattle.std.specs.Prelude.{◌≡◌, ℕ, ◌<◌, ◌≤◌, false, [], length, slice_index_or};
+ghost use Rattle.std.specs.Prelude.{◌≡◌, [], length};
+ghost use Rattle.heap.specs.Bag.{InOrder};
+ghost use Rattle.heap.proofs.Bags.{in-order-prop};
 ghost use Rattle.queue.specs.Entries.{entry_before};
-ghost use Rattle.chain.specs.Cells.{blank, strung, occurs};
-ghost use Rattle.chain.specs.Chains.{cells_of, chain_of, numbers_of};
-ghost use Rattle.chain.specs.ChainBags.{chain-ordered, chain-bounded};
+ghost use Rattle.chain.specs.Cells.{StrungUp};
+ghost use Rattle.chain.specs.Chains.{cells_of, chain_of};
+ghost use Rattle.chain.specs.ChainBags.{chain-bounded};
 
 use crate::cell::Cell;
 use crate::links::Links;
-use crate::links::cells::string_up;
 use queue::entry::Entry;
 use queue::open_list::OpenList;
 
-// An open list as an ordered chain in lent cells. That the chain is in order and its cells are apart is part of the type.
+// An open list as an ordered chain in lent cells. That the chain is in order is part of the type.
 #[derive(Drop)]
 pub struct EntryChain<'a> {
     links: Links<'a>,
-    ghost within: { links.count ≤ length (cells_of links) },
-    ghost once: { (x : ℕ) → occurs x (numbers_of links) ≤ 1 },
-    ghost inside: { (x : ℕ) → length (cells_of links) ≤ x → occurs x (numbers_of links) ≡ 0 },
-    ghost order: { (i j : ℕ) → (i < j) × (j < length (chain_of links)) → entry_before (slice_index_or (chain_of links) j blank.entry) (slice_index_or (chain_of links) i blank.entry) ≡ false },
+    ghost order: { InOrder entry_before (chain_of links) } by { in-order-prop entry_before _ },
 }
 
 impl EntryChain<'_> {
@@ -25,15 +23,9 @@ impl EntryChain<'_> {
     pub fn start(cells: &mut [Cell]) -> EntryChain<'_>
         ensures bag { chain_of result.links ≡ [] }
         ensures room { length (cells_of result.links) ≡ length cells.old }
-        ensures cells { (k : ℕ) → k < length cells.old → slice_index_or (cells_of result.links) k blank ≡ strung cells.old k }
+        ensures cells { StrungUp cells.old (cells_of result.links) }
     {
-        string_up(cells);
-        let links = Links {
-            cells,
-            head: 0,
-            free: 0,
-            count: 0,
-        };
+        let links = Links::start(cells);
         EntryChain { links }
     }
 }
@@ -43,9 +35,9 @@ impl OpenList for EntryChain<'_> {
 
     ghost limit = { λ s. length (cells_of s.links) };
 
-    ghost ordered = { λ s. chain-ordered (chain_of s.links) s.order };
+    ghost ordered = { λ s. s.order };
 
-    ghost bounded = { λ s. chain-bounded (cells_of s.links) s.links.head s.links.count s.within };
+    ghost bounded = { λ s. chain-bounded (cells_of s.links) _ _ s.links.linked.within };
 
     fn put(&mut self, e: Entry) -> bool {
         self.links.put(e)
