@@ -9,7 +9,6 @@ use Rattle.refusal.specs.declared.refusal.Refusal.{Refusal}
 use Rattle.loader.specs.View.{leads}
 use Rattle.loader.specs.Description.{Description}
 use Rattle.loader.specs.Bytes.{word_at}
-use Rattle.loader.specs.Layout.{place_of}
 use Rattle.loader.specs.Parse.{header_at, work_at, read_works, next_at, read_transfers, end_at, parse}
 use Rattle.loader.specs.Encoding.{TransferAt}
 use Rattle.loader.specs.Refusals.{refusal_of}
@@ -46,15 +45,9 @@ module _ (bs : List ℕ) where
 
   stop-more : (d : Description) (e : GraphFault) → Before bs (more d) → next_at bs d.tasks d.transfers (place (more d)) ≡ Err e → parse bs ≡ Err e
   stop-more d e b h =
-      let n = d.tasks in
-      let ts = d.transfers in
-      let k = length ts in
-      let a : take k ts ≡ ts = take_all k ts (omega arith) in
-      let y = b.0.sizes.4 in
-      let h' : next_at bs n (take k ts) (place_of n k) ≡ Err e = subst (λ (v : List Transfer). next_at bs n v (place_of n k) ≡ Err e) (sym a) h in
       let z = b.0.inside in
       let q = b.1 in
-      let t = transfers-stop bs n k ts (omega arith) (transfers.after-shown bs n ts (shown-all d b) (omega arith) k (omega arith)) e y h' in
+      let t = transfers-stop bs d.tasks d.transfers (transfers.after-all bs d.tasks d.transfers (shown-all d b) (omega arith)) e b.0.sizes.4 h in
       rw (header_ok d b.0, all-works d b, t) refl
 
   -- ---- what each rule says is what the tests answer

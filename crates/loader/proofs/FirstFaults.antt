@@ -1,19 +1,18 @@
-use Rattle.std.proofs.Common.{◌≡◌, ℕ, ◌+◌, ◌≤◌, Bool, true, false, cond, not, ◌&&◌, eqb, ltb, leb, List, length, Ok, Err, Result, sym, refl, ap, ◌∙◌, subst, inl, inr, ⊎_elim, arith}
+use Rattle.std.proofs.Common.{◌≡◌, ℕ, ◌+◌, ◌≤◌, Bool, true, false, cond, ◌&&◌, eqb, ltb, leb, List, length, Ok, Err, Result, sym, refl, ap, ◌∙◌, subst, inl, inr, ⊎_elim, arith, None, Some}
 use Rattle.std.proofs.lemmas.Bool.{cond_both, and_cases, eqb-true, eqb-false, ltb-true, ltb-false, leb-false}
 use Rattle.std.proofs.lemmas.Bool.Decides.{nat_tests}
-use Rattle.loader.specs.declared.bytes.Head.{Head}
+use Rattle.loader.specs.declared.records.Head.{Head}
 use Rattle.loader.specs.declared.faults.RecordsFault.{RecordsFault}
 use Rattle.loader.specs.declared.faults.RecordsFault.TheVariants.{Bytes}
 use Rattle.loader.specs.declared.faults.GraphFault.{GraphFault}
 use Rattle.loader.specs.declared.faults.GraphFault.TheVariants.{Records}
 use Rattle.loader.specs.declared.transfer.Transfer.{Transfer}
-use Rattle.loader.specs.declared.next.Next.TheVariants.{End}
 use Rattle.loader.specs.View.{leads}
 use Rattle.loader.specs.Description.{Description}
 use Rattle.loader.specs.Bytes.{word_at, whole, head_at}
 use Rattle.loader.specs.Chaining.{and_then, lifted}
 use Rattle.loader.specs.Records.{payload_of, due_at, more_at}
-use Rattle.loader.specs.Parse.{within, header_at, work_at, transfer_at, next_at, end_at}
+use Rattle.loader.specs.Parse.{within, in_range, header_at, work_at, transfer_at, next_at, end_at}
 use Rattle.loader.specs.Encoding.{RecordAt, TransferAt}
 use Rattle.loader.specs.Refusals.{refusal_of}
 use Rattle.loader.specs.Refused.{InRange, Due, header, task, more, place, end, Fits, Before, Whole, Sound, Refused, short, kind, payload, range, many, twice, tail}
@@ -49,10 +48,6 @@ more-passed bs i e = ((grind (arith, nat_tests), grind (arith, nat_tests)), grin
 
 within-out : (a b c : ℕ) → within a b c ≡ false → (a ≤ c) × (c ≤ b) → ⊥
 within-out a b c e r = grind (arith, nat_tests)
-
--- the tests of a transfer's numbers
-abbrev in_range : ℕ → Transfer → Bool
-in_range n t = ltb t.from n && (ltb t.to n && (leb t.cost 1000 && not (eqb t.from t.to)))
 
 range-in : (n : ℕ) (t : Transfer) → in_range n t ≡ true → InRange n t
 range-in n t e = (grind (arith, nat_tests), grind (arith, nat_tests), grind (arith, nat_tests), λ q. grind (arith, nat_tests))
@@ -129,8 +124,9 @@ module _ (bs : List ℕ) where
       (λ c. let y = b.0.sizes.4 in many d t s (omega (arith, ltb-false _ _ c))))
       (λ a. range (more d) ((b, f.1), inl (f.0.1, f.0.0)) (λ r. range-out d.tasks t a (r t m)))
 
-  chosen-right : (d : Description) → Before bs (more d) → (m : Bool) → more_at bs (place (more d)) ≡ Ok m → Right Fault (cond m (transfer_at bs d.tasks d.transfers (place (more d))) (Ok End))
-  chosen-right d b true e = transfer-right d b (more-passed bs (place (more d)) e)
+  chosen-right : (d : Description) → Before bs (more d) → (m : Bool) → more_at bs (place (more d)) ≡ Ok m
+      → Right Fault (cond m (and_then (transfer_at bs d.tasks d.transfers (place (more d))) (λ t. Ok (Some t))) (Ok None))
+  chosen-right d b true e = then-right Fault (transfer_at bs d.tasks d.transfers (place (more d))) _ (transfer-right d b (more-passed bs (place (more d)) e)) (λ _ _. tt)
   chosen-right d b false e = tt
 
   pub next-right : (d : Description) → Before bs (more d) → Right Fault (next_at bs d.tasks d.transfers (place (more d)))

@@ -1,11 +1,15 @@
-use Rattle.std.proofs.Common.{◌≡◌, ℕ, ◌+◌, ◌*◌, ◌≤◌, false, ltb, List, Ok, Err, sym, ap, ◌∙◌, subst, arith}
+use Rattle.std.proofs.Common.{◌≡◌, ℕ, ◌+◌, ◌*◌, ◌<◌, ◌≤◌, Bool, true, false, cond, ltb, List, length, Some, None, Option, Ok, Err, sym, refl, ap, ◌∙◌, subst, arith}
 use native.Mathlib.Decide.{dec_lt}
-use Rattle.std.proofs.lemmas.Bool.{cond-true, cond-false, lt-ltb, le-ltb, ltb-false}
+use Rattle.std.proofs.lemmas.Bool.{cond-true, cond-false, lt-ltb, le-ltb, ltb-true, ltb-false}
+use Rattle.std.proofs.lemmas.Option.{cond_some}
 use Rattle.model.specs.Graph.{Graph, LawfulButForCycles, Lawful}
-use Rattle.model.specs.Cycles.{cyclic, LowestOnCycle}
+use Rattle.model.specs.Range.{first, lowest}
+use Rattle.model.specs.Cycles.{reach, cyclic, LowestOnCycle}
 use Rattle.model.proofs.Cycles.{cyclic-lowest, cyclic-none, acyclic-none}
 use Rattle.loader.specs.declared.faults.GraphFault.{GraphFault}
 use Rattle.loader.specs.declared.faults.GraphFault.TheVariants.{Cycle}
+use Rattle.loader.specs.declared.transfer.Transfer.{Transfer}
+use Rattle.loader.specs.View.{graph_of}
 use Rattle.loader.specs.Description.{Description, described}
 use Rattle.loader.specs.Parse.{decode, cycle_test, parse}
 use Rattle.loader.specs.Encoding.{Encodes}
@@ -52,3 +56,23 @@ cycle-refused bs d t s l low =
           and_then-at (decode bs) cycle_test d (Err (Cycle (8 + 6 * t))) (decode-reads bs d s l) (cond-true _ _ _ (lt-ltb _ _ h) ∙ ap (λ (v : ℕ). Err (Cycle (8 + 6 * v))) q)
       | no h ↦ absurd (cyclic-none g l.ends (omega (arith, h)) t low.1)
     ]
+
+none-of : (b : Bool) (c : ℕ) → cond b (Some c) None ≡ None → b ≡ false
+none-of true c e = absurd (let z : ◌≡◌ {A = ℕ} 0 1 = cc in omega arith)
+none-of false c e = refl
+
+module _ (tasks : ℕ) (ts : List Transfer) (d : Description) (n : d.tasks ≡ tasks) (m : d.transfers ≡ ts) where
+  found : (r : Option ℕ) → ((p : ℕ) (ws : List ℕ) → r ≡ lowest tasks (λ t. reach (graph_of tasks p ws (length ts) ts) tasks t t)) → lowest d.tasks (λ t. reach (described d) d.tasks t t) ≡ r
+  found r f = rw (n, m) (sym (f d.machines d.works))
+
+  pub cycle-found : (t : ℕ) → ((p : ℕ) (ws : List ℕ) → Some t ≡ lowest tasks (λ t. reach (graph_of tasks p ws (length ts) ts) tasks t t)) → cycle_test d ≡ Err (Cycle (8 + 6 * t))
+  cycle-found t f =
+      let q = cond_some (ltb (cyclic (described d)) d.tasks) (cyclic (described d)) t (found (Some t) f) in
+      cond-true _ _ _ q.0 ∙ ap (λ (v : ℕ). Err (Cycle (8 + 6 * v))) q.1
+
+  pub cycle-none : ((p : ℕ) (ws : List ℕ) → None ≡ lowest tasks (λ t. reach (graph_of tasks p ws (length ts) ts) tasks t t)) → cycle_test d ≡ Ok d
+  cycle-none f = cond-false _ _ _ (none-of (ltb (cyclic (described d)) d.tasks) (cyclic (described d)) (found None f))
+
+-- a lowest number is below the bound
+pub lowest-small : (n : ℕ) (f : ℕ → Bool) (t : ℕ) → Some t ≡ lowest n f → t < n
+lowest-small n f t e = let q = cond_some (ltb (first n f) n) (first n f) t (sym e) in let l = ltb-true _ _ q.0 in omega arith

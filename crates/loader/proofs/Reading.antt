@@ -1,9 +1,8 @@
-use Rattle.std.proofs.Common.{◌≡◌, ℕ, zero, suc, ◌+◌, ◌-◌, ◌*◌, ◌<◌, ◌≤◌, List, [], ◌∷◌, ◌++◌, length, take, set, Ok, Err, Result, refl, ap, ◌∙◌, add-zero, add-suc, add-one, arith, length-take-le, take-suc-set}
+use Rattle.std.proofs.Common.{◌≡◌, ℕ, zero, suc, ◌+◌, ◌-◌, ◌*◌, ◌<◌, ◌≤◌, List, [], ◌∷◌, ◌++◌, length, take, set, Ok, Err, Result, refl, ap, ◌∙◌, add-zero, add-suc, add-one, arith, take-suc-set, Some, None, Option}
+use Rattle.std.proofs.lemmas.List.{length_push}
 use Rattle.std.proofs.lemmas.Bool.Decides.{nat_tests}
 use Rattle.loader.specs.declared.faults.GraphFault.{GraphFault}
 use Rattle.loader.specs.declared.transfer.Transfer.{Transfer}
-use Rattle.loader.specs.declared.next.Next.{Next}
-use Rattle.loader.specs.declared.next.Next.TheVariants.{End, More}
 use Rattle.loader.specs.Chaining.{and_then}
 use Rattle.loader.specs.Layout.{place_of}
 use Rattle.loader.specs.Parse.{work_at, read_works, next_at, reading, ended, refused, taken, step, after, finish, read_transfers}
@@ -34,11 +33,11 @@ module _ (bs works : List ℕ) (i : ℕ) (so : read_works bs i ≡ Ok (take i wo
 -- ---- the transfers
 
 -- a transfer is whole, and there is room for it
-pub next-inside : (bs : List ℕ) (n : ℕ) (ts : List Transfer) (i : ℕ) (t : Transfer) → next_at bs n ts i ≡ Ok (More t) → (i + 10 ≤ length bs) × (length ts < 128)
+pub next-inside : (bs : List ℕ) (n : ℕ) (ts : List Transfer) (i : ℕ) (t : Transfer) → next_at bs n ts i ≡ Ok (Some t) → (i + 10 ≤ length bs) × (length ts < 128)
 next-inside bs n ts i t e = (grind (arith, nat_tests), grind (arith, nat_tests))
 
 -- the last record is whole
-pub end-inside : (bs : List ℕ) (n : ℕ) (ts : List Transfer) (i : ℕ) → next_at bs n ts i ≡ Ok End → i + 4 ≤ length bs
+pub end-inside : (bs : List ℕ) (n : ℕ) (ts : List Transfer) (i : ℕ) → next_at bs n ts i ≡ Ok None → i + 4 ≤ length bs
 end-inside bs n ts i e = grind (arith, nat_tests)
 
 after-ended : (bs : List ℕ) (n k : ℕ) (ts : List Transfer) (d : ℕ) → after bs n k ≡ ended ts → after bs n (k + d) ≡ ended ts
@@ -49,19 +48,19 @@ after-refused : (bs : List ℕ) (n k : ℕ) (e : GraphFault) (d : ℕ) → after
 after-refused bs n k e zero h = rw add-zero h
 after-refused bs n k e (suc d) h = rw (add-suc, after-refused bs n k e d h) refl
 
-module _ (bs : List ℕ) (n k : ℕ) (list : List Transfer) (room : k ≤ length list) (so : after bs n k ≡ reading (take k list)) where
-  pub stepped : (r : Result Next GraphFault) → next_at bs n (take k list) (place_of n k) ≡ r → after bs n (suc k) ≡ taken (take k list) r
-  stepped r e = ap (step bs n) so ∙ (ap (λ (j : ℕ). taken (take k list) (next_at bs n (take k list) (place_of n j))) (length-take-le k list room) ∙ ap (taken (take k list)) e)
+module _ (bs : List ℕ) (n : ℕ) (ts : List Transfer) (so : after bs n (length ts) ≡ reading ts) where
+  pub stepped : (r : Result (Option Transfer) GraphFault) → next_at bs n ts (place_of n (length ts)) ≡ r → after bs n (suc (length ts)) ≡ taken ts r
+  stepped r e = ap (step bs n) so ∙ ap (taken ts) e
 
-  pub transfers-more : (t : Transfer) → k < length list → next_at bs n (take k list) (place_of n k) ≡ Ok (More t) → after bs n (k + 1) ≡ reading (take (k + 1) (set list k t))
-  transfers-more t h e = rw (add-one, stepped (Ok (More t)) e, take-suc-set) refl
+  pub transfers-more : (t : Transfer) → next_at bs n ts (place_of n (length ts)) ≡ Ok (Some t) → after bs n (length (ts ++ t ∷ [])) ≡ reading (ts ++ t ∷ [])
+  transfers-more t e = let l : length (ts ++ t ∷ []) ≡ suc (length ts) = omega (arith, length_push ts t) in rw l (stepped (Ok (Some t)) e)
 
-  pub transfers-end : k ≤ 128 → next_at bs n (take k list) (place_of n k) ≡ Ok End → read_transfers bs n ≡ Ok (take k list)
+  pub transfers-end : length ts ≤ 128 → next_at bs n ts (place_of n (length ts)) ≡ Ok None → read_transfers bs n ≡ Ok ts
   transfers-end h e =
-      let m : suc k + (128 - k) ≡ 129 = omega arith in
-      ap finish (rw m at (after-ended bs n (suc k) (take k list) (128 - k) (stepped (Ok End) e)))
+      let m : suc (length ts) + (128 - length ts) ≡ 129 = omega arith in
+      ap finish (rw m at (after-ended bs n (suc (length ts)) ts (128 - length ts) (stepped (Ok None) e)))
 
-  pub transfers-stop : (x : GraphFault) → k ≤ 128 → next_at bs n (take k list) (place_of n k) ≡ Err x → read_transfers bs n ≡ Err x
+  pub transfers-stop : (x : GraphFault) → length ts ≤ 128 → next_at bs n ts (place_of n (length ts)) ≡ Err x → read_transfers bs n ≡ Err x
   transfers-stop x h e =
-      let m : suc k + (128 - k) ≡ 129 = omega arith in
-      ap finish (rw m at (after-refused bs n (suc k) x (128 - k) (stepped (Err x) e)))
+      let m : suc (length ts) + (128 - length ts) ≡ 129 = omega arith in
+      ap finish (rw m at (after-refused bs n (suc (length ts)) x (128 - length ts) (stepped (Err x) e)))

@@ -1,11 +1,9 @@
-use Rattle.std.proofs.Common.{◌≡◌, ℕ, zero, suc, ◌+◌, ◌*◌, ◌≤◌, ltb, List, [], length, Ok, Err, Result, refl, subst, arith}
+use Rattle.std.proofs.Common.{◌≡◌, ℕ, zero, suc, ◌+◌, ◌*◌, ◌≤◌, ltb, List, [], length, Ok, Err, Result, refl, subst, arith, Some, None, Option}
 use Rattle.std.proofs.lemmas.Bool.{cond_both, ltb-true}
 use Rattle.model.specs.Cycles.{cyclic}
 use Rattle.model.proofs.Cycles.{cyclic-lowest}
 use Rattle.loader.specs.declared.faults.GraphFault.{GraphFault}
 use Rattle.loader.specs.declared.transfer.Transfer.{Transfer}
-use Rattle.loader.specs.declared.next.Next.{Next}
-use Rattle.loader.specs.declared.next.Next.TheVariants.{End, More}
 use Rattle.loader.specs.Description.{Description, described}
 use Rattle.loader.specs.Layout.{place_of}
 use Rattle.loader.specs.Parse.{header_at, work_at, read_works, next_at, Progress, reading, ended, refused, taken, step, after, finish, read_transfers, end_at, decode, cycle_test, parse}
@@ -56,9 +54,9 @@ module _ (bs : List ℕ) (n p : ℕ) (first : header_at bs ≡ Ok (n, p)) where
     RightSoFar (ended ts) = Unit {0}
     RightSoFar (refused e) = Fault bs e
 
-    taken-right : (ts : List Transfer) (r : Result Next GraphFault) → Right (Fault bs) r → RightSoFar (taken ts r)
-    taken-right ts (Ok End) q = tt
-    taken-right ts (Ok (More t)) q = tt
+    taken-right : (ts : List Transfer) (r : Result (Option Transfer) GraphFault) → Right (Fault bs) r → RightSoFar (taken ts r)
+    taken-right ts (Ok None) q = tt
+    taken-right ts (Ok (Some t)) q = tt
     taken-right ts (Err e) q = q
 
     step_right : (k : ℕ) (s : Progress) → transfers.Told bs n tasks-inside k s → RightSoFar s → RightSoFar (step bs n s)

@@ -1,7 +1,6 @@
-use Rattle.std.proofs.Common.{◌≡◌, ℕ, ◌+◌, ◌<◌, ◌≤◌, false, List, length, Ok, arith}
+use Rattle.std.proofs.Common.{◌≡◌, ℕ, ◌+◌, ◌<◌, ◌≤◌, false, List, length, Ok, arith, Some, None}
 use Rattle.std.proofs.lemmas.Bool.Decides.{nat_tests}
 use Rattle.loader.specs.declared.transfer.Transfer.{Transfer}
-use Rattle.loader.specs.declared.next.Next.TheVariants.{End, More}
 use Rattle.loader.specs.View.{leads}
 use Rattle.loader.specs.Bytes.{word_at}
 use Rattle.loader.specs.Parse.{header_at, work_at, next_at, end_at}
@@ -16,10 +15,10 @@ header-reads bs n p l a b c d r = grind (arith, nat_tests)
 pub work-reads : (bs : List ℕ) (i w : ℕ) → i + 6 ≤ length bs → TaskAt bs i w → WorkInRange w → work_at bs i ≡ Ok w
 work-reads bs i w l t r = grind (arith, nat_tests)
 
-pub transfer-reads : (bs : List ℕ) (n : ℕ) (ts : List Transfer) (i : ℕ) (t : Transfer) → i + 10 ≤ length bs → TransferAt bs i t → InRange n t → length ts < 128 → leads ts t.from t.to ≡ false → next_at bs n ts i ≡ Ok (More t)
+pub transfer-reads : (bs : List ℕ) (n : ℕ) (ts : List Transfer) (i : ℕ) (t : Transfer) → i + 10 ≤ length bs → TransferAt bs i t → InRange n t → length ts < 128 → leads ts t.from t.to ≡ false → next_at bs n ts i ≡ Ok (Some t)
 transfer-reads bs n ts i t l m r h e = grind (arith, nat_tests)
 
-pub end_reads : (bs : List ℕ) (n : ℕ) (ts : List Transfer) (i : ℕ) → i + 4 ≤ length bs → RecordAt bs i 4 0 → next_at bs n ts i ≡ Ok End
+pub end_reads : (bs : List ℕ) (n : ℕ) (ts : List Transfer) (i : ℕ) → i + 4 ≤ length bs → RecordAt bs i 4 0 → next_at bs n ts i ≡ Ok None
 end_reads bs n ts i l m = grind (arith, nat_tests)
 
 pub tail-reads : (bs : List ℕ) (i : ℕ) → length bs ≤ i → end_at bs i ≡ Ok tt
@@ -39,16 +38,16 @@ work-told bs i w e = (grind (arith, nat_tests), grind (arith, nat_tests), grind 
 pub work-range : (bs : List ℕ) (i w : ℕ) → work_at bs i ≡ Ok w → WorkInRange w
 work-range bs i w e = (grind (arith, nat_tests), grind (arith, nat_tests))
 
-pub transfer-told : (bs : List ℕ) (n : ℕ) (ts : List Transfer) (i : ℕ) (t : Transfer) → next_at bs n ts i ≡ Ok (More t) → TransferAt bs i t
+pub transfer-told : (bs : List ℕ) (n : ℕ) (ts : List Transfer) (i : ℕ) (t : Transfer) → next_at bs n ts i ≡ Ok (Some t) → TransferAt bs i t
 transfer-told bs n ts i t e = (grind (arith, nat_tests), grind (arith, nat_tests), grind (arith, nat_tests), grind (arith, nat_tests), grind (arith, nat_tests))
 
-pub transfer-range : (bs : List ℕ) (n : ℕ) (ts : List Transfer) (i : ℕ) (t : Transfer) → next_at bs n ts i ≡ Ok (More t) → InRange n t
+pub transfer-range : (bs : List ℕ) (n : ℕ) (ts : List Transfer) (i : ℕ) (t : Transfer) → next_at bs n ts i ≡ Ok (Some t) → InRange n t
 transfer-range bs n ts i t e = (grind (arith, nat_tests), grind (arith, nat_tests), grind (arith, nat_tests), grind (arith, nat_tests))
 
-pub transfer-new : (bs : List ℕ) (n : ℕ) (ts : List Transfer) (i : ℕ) (t : Transfer) → next_at bs n ts i ≡ Ok (More t) → leads ts t.from t.to ≡ false
+pub transfer-new : (bs : List ℕ) (n : ℕ) (ts : List Transfer) (i : ℕ) (t : Transfer) → next_at bs n ts i ≡ Ok (Some t) → leads ts t.from t.to ≡ false
 transfer-new bs n ts i t e = grind (arith, nat_tests)
 
-pub end-told : (bs : List ℕ) (n : ℕ) (ts : List Transfer) (i : ℕ) → next_at bs n ts i ≡ Ok End → RecordAt bs i 4 0
+pub end-told : (bs : List ℕ) (n : ℕ) (ts : List Transfer) (i : ℕ) → next_at bs n ts i ≡ Ok None → RecordAt bs i 4 0
 end-told bs n ts i e = (grind (arith, nat_tests), grind (arith, nat_tests))
 
 pub tail-told : (bs : List ℕ) (i : ℕ) → end_at bs i ≡ Ok tt → length bs ≤ i

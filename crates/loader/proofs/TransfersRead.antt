@@ -1,10 +1,8 @@
-use Rattle.std.proofs.Common.{◌≡◌, ℕ, zero, suc, ◌+◌, ◌*◌, ◌<◌, ◌≤◌, false, List, [], ◌∷◌, ◌++◌, length, get_or, take, Ok, Err, Result, sym, refl, ap, ◌∙◌, subst, ⊎_elim, add-one, arith, length-take-le}
+use Rattle.std.proofs.Common.{◌≡◌, ℕ, zero, suc, ◌+◌, ◌*◌, ◌<◌, ◌≤◌, false, List, [], ◌∷◌, ◌++◌, length, get_or, take, Ok, Err, Result, sym, refl, ap, ◌∙◌, subst, ⊎_elim, add-one, arith, length-take-le, Some, None, Option}
 use Rattle.std.proofs.lemmas.Bool.{cases_lt, both_ways}
 use Rattle.std.proofs.lemmas.List.{get_or_append_left, get_or_push, length_push, take_more, take_all}
 use Rattle.loader.specs.declared.faults.GraphFault.{GraphFault}
 use Rattle.loader.specs.declared.transfer.Transfer.{Transfer}
-use Rattle.loader.specs.declared.next.Next.{Next}
-use Rattle.loader.specs.declared.next.Next.TheVariants.{End, More}
 use Rattle.loader.specs.View.{blank, leads}
 use Rattle.loader.specs.Layout.{place_of}
 use Rattle.loader.specs.Parse.{next_at, Progress, reading, ended, refused, taken, step, after, finish, read_transfers}
@@ -64,9 +62,9 @@ module _ (bs : List ℕ) (n : ℕ) (tasks-inside : 8 + 6 * n ≤ length bs) wher
   Told k (ended ts) = ShownAll bs n ts × Closed bs n ts
   Told k (refused e) = Unit {0}
 
-  taken-told : (ts : List Transfer) (r : Result Next GraphFault) → next_at bs n ts (place_of n (length ts)) ≡ r → ShownAll bs n ts → Told (suc (length ts)) (taken ts r)
-  taken-told ts (Ok End) e f = (f, (end-told bs n ts (place_of n (length ts)) e, end-inside bs n ts (place_of n (length ts)) e))
-  taken-told ts (Ok (More t)) e f =
+  taken-told : (ts : List Transfer) (r : Result (Option Transfer) GraphFault) → next_at bs n ts (place_of n (length ts)) ≡ r → ShownAll bs n ts → Told (suc (length ts)) (taken ts r)
+  taken-told ts (Ok None) e f = (f, (end-told bs n ts (place_of n (length ts)) e, end-inside bs n ts (place_of n (length ts)) e))
+  taken-told ts (Ok (Some t)) e f =
       let i = place_of n (length ts) in
       let h = next-inside bs n ts i t e in
       let l = length_push ts t in
@@ -102,12 +100,12 @@ module _ (bs : List ℕ) (n : ℕ) (ts : List Transfer) (s : ShownAll bs n ts) (
       let x = s.shown k lt in
       let e = transfer-reads bs n (take k ts) (place_of n k) t (omega arith) x.0 x.1 (omega arith) (pair-new ts k lt s.pairs) in
       let m : take (suc k) ts ≡ take k ts ++ t ∷ [] = rw add-one at (take_more ts k blank lt) in
-      stepped bs n k ts (omega arith) (after-shown k (omega arith)) (Ok (More t)) e ∙ ap (λ (x : List Transfer). reading x) (sym m)
+      let d : after bs n (suc k) ≡ reading (take k ts ++ t ∷ []) = rw l at (stepped bs n (take k ts) (rw l (after-shown k (omega arith))) (Ok (Some t)) (ap (λ (v : ℕ). next_at bs n (take k ts) (place_of n v)) l ∙ e)) in
+      d ∙ ap (λ (x : List Transfer). reading x) (sym m)
+
+  pub after-all : after bs n (length ts) ≡ reading ts
+  after-all = after-shown (length ts) (omega arith) ∙ ap (λ (x : List Transfer). reading x) (take_all (length ts) ts (omega arith))
 
 module _ (bs : List ℕ) (n : ℕ) (ts : List Transfer) (s : ShownAll bs n ts) (c : Closed bs n ts) where
   pub transfers-read : read_transfers bs n ≡ Ok ts
-  transfers-read =
-      let m = length ts in
-      let z = c.1 in
-      let e = end_reads bs n (take m ts) (place_of n m) c.1 c.0 in
-      transfers-end bs n m ts (omega arith) (after-shown bs n ts s (omega arith) m (omega arith)) s.few e ∙ ap (λ (x : List Transfer). Ok x) (take_all m ts (omega arith))
+  transfers-read = let z = c.1 in transfers-end bs n ts (after-all bs n ts s (omega arith)) s.few (end_reads bs n ts (place_of n (length ts)) c.1 c.0)

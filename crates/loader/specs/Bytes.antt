@@ -1,6 +1,6 @@
-use Rattle.std.specs.Prelude.{ℕ, ◌+◌, ◌*◌, Bool, cond, ◌&&◌, List, length, Ok, Err, Result, nat_le, slice_index}
+use Rattle.std.specs.Prelude.{ℕ, ◌+◌, ◌*◌, Bool, if◌then◌else◌, ◌&&◌, List, length, Ok, Err, Result, nat_le, slice_index}
 use Rattle.loader.specs.declared.faults.BytesFault.{BytesFault}
-use Rattle.loader.specs.declared.bytes.Head.{Head}
+use Rattle.loader.specs.declared.records.Head.{Head}
 
 -- the number in two bytes, the lesser first
 abbrev pub word : ℕ → ℕ → ℕ
@@ -16,4 +16,7 @@ whole bs i = nat_le (i + 4) (length bs) && nat_le (i + 4 + word_at bs i) (length
 
 -- the head of the record at byte i
 abbrev pub head_at : List ℕ → ℕ → Result Head BytesFault
-head_at bs i = cond (whole bs i) (Ok (record { payload = word_at bs i; kind = word_at bs (i + 2) })) (Err (record { place = i }))
+head_at bs i =
+    if whole bs i
+    then Ok (record { payload = word_at bs i; kind = word_at bs (i + 2) })
+    else Err (record { place = i })

@@ -3,7 +3,8 @@ use Rattle.model.specs.Graph.{Graph}
 use Rattle.loader.specs.declared.transfer.Transfer.{Transfer}
 use Rattle.loader.specs.View.{graph_of}
 
--- what a file tells of a graph: how many tasks and machines, the work of each task, and the transfers
+-- what a file tells of a graph: how many tasks and machines there are, the work of each task,
+-- and the transfers
 pub record Description : Type 0 where
   pub tasks : ℕ
   pub machines : ℕ

@@ -15,13 +15,18 @@ TaskAt bs i w = (word_at bs i ≡ 2) × (word_at bs (i + 2) ≡ 2) × (word_at b
 
 -- the record of a transfer
 abbrev pub TransferAt : List ℕ → ℕ → Transfer → Type 0
-TransferAt bs i t = (word_at bs i ≡ 6) × (word_at bs (i + 2) ≡ 3) × (word_at bs (i + 4) ≡ t.from) × (word_at bs (i + 6) ≡ t.to) × (word_at bs (i + 8) ≡ t.cost)
+TransferAt bs i t =
+    (word_at bs i ≡ 6) × (word_at bs (i + 2) ≡ 3)
+    × (word_at bs (i + 4) ≡ t.from) × (word_at bs (i + 6) ≡ t.to) × (word_at bs (i + 8) ≡ t.cost)
 
 -- the file holds the description, record by record, and nothing else
 pub record Encodes (bs : List ℕ) (d : Description) : Type 0 where
   pub long : length bs ≡ place_of d.tasks (length d.transfers) + 4
   pub all : length d.works ≡ d.tasks
-  pub first : (word_at bs 0 ≡ 4) × (word_at bs 2 ≡ 1) × (word_at bs 4 ≡ d.tasks) × (word_at bs 6 ≡ d.machines)
-  pub task : (k : ℕ) → k < d.tasks → TaskAt bs (8 + 6 * k) (slice_index d.works k)
-  pub transfer : (k : ℕ) → k < length d.transfers → TransferAt bs (place_of d.tasks k) (slice_index_or d.transfers k blank)
+  pub first : (word_at bs 0 ≡ 4) × (word_at bs 2 ≡ 1)
+      × (word_at bs 4 ≡ d.tasks) × (word_at bs 6 ≡ d.machines)
+  pub task : (k : ℕ) → k < d.tasks
+      → TaskAt bs (8 + 6 * k) (slice_index d.works k)
+  pub transfer : (k : ℕ) → k < length d.transfers
+      → TransferAt bs (place_of d.tasks k) (slice_index_or d.transfers k blank)
   pub last : RecordAt bs (place_of d.tasks (length d.transfers)) 4 0

@@ -4,8 +4,11 @@ pub mod Meaning
 pub mod Layout
 pub mod Chaining
 pub mod Bytes
+pub mod Kinds
 pub mod Records
 pub mod Parse
+pub mod Tables
+pub mod Levels
 pub mod Encoding
 pub mod Refusals
 pub mod Refused

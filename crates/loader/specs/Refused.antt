@@ -1,4 +1,4 @@
-use Rattle.std.specs.Prelude.{◌≡◌, ℕ, ◌+◌, ◌*◌, ◌<◌, ◌≤◌, ◌⊎◌, List, [], length, get_or, ◌≢◌, slice_index, slice_index_or}
+use Rattle.std.specs.Prelude.{◌≡◌, ℕ, ◌+◌, ◌*◌, ◌<◌, ◌≤◌, ◌⊎◌, List, [], length, ◌≢◌, slice_index, slice_index_or}
 use Rattle.model.specs.Graph.{Sizes, SamePair, LawfulButForCycles}
 use Rattle.model.specs.Cycles.{LowestOnCycle}
 use Rattle.refusal.specs.declared.layer.Layer.TheVariants.{Bytes, Records, Graph}
@@ -20,14 +20,19 @@ InRange n t = (t.from < n) × (t.to < n) × (t.cost ≤ 1000) × (t.from ≢ t.t
 
 -- the records so far are whole, tell this description, as far as it goes, and break no rule
 pub record SoFar (bs : List ℕ) (d : Description) : Type 0 where
-  pub first : (word_at bs 0 ≡ 4) × (word_at bs 2 ≡ 1) × (word_at bs 4 ≡ d.tasks) × (word_at bs 6 ≡ d.machines)
+  pub first : (word_at bs 0 ≡ 4) × (word_at bs 2 ≡ 1)
+      × (word_at bs 4 ≡ d.tasks) × (word_at bs 6 ≡ d.machines)
   pub sizes : Sizes (described d)
-  pub task : (k : ℕ) → k < length d.works → TaskAt bs (8 + 6 * k) (slice_index d.works k) × WorkInRange (slice_index d.works k)
-  pub transfer : (k : ℕ) → k < length d.transfers → TransferAt bs (place_of d.tasks k) (slice_index_or d.transfers k blank) × InRange d.tasks (slice_index_or d.transfers k blank)
+  pub task : (k : ℕ) → k < length d.works
+      → TaskAt bs (8 + 6 * k) (slice_index d.works k) × WorkInRange (slice_index d.works k)
+  pub transfer : (k : ℕ) → k < length d.transfers
+      → TransferAt bs (place_of d.tasks k) (slice_index_or d.transfers k blank)
+      × InRange d.tasks (slice_index_or d.transfers k blank)
   pub pairs : (i j : ℕ) → SamePair (described d) i j → ⊥
   pub inside : place_of (length d.works) (length d.transfers) ≤ length bs
 
--- what is due: the first record; after records that tell a description, the record of a task; after all tasks, a transfer or the last record
+-- what is due: the first record; after records that tell a description, the record of a task;
+-- after all tasks, a transfer or the last record
 pub data Due : Type 0 where
   header : Due
   task : Description → Due
@@ -51,7 +56,8 @@ Fits (more d) kind payload = ((kind ≡ 3) × (payload ≡ 6)) ⊎ ((kind ≡ 4)
 
 -- its numbers are in range; the last record has none
 abbrev pub Ranged : List ℕ → Due → Type 0
-Ranged bs header = (1 ≤ word_at bs 4) × (word_at bs 4 ≤ 32) × (1 ≤ word_at bs 6) × (word_at bs 6 ≤ 8)
+Ranged bs header =
+    (1 ≤ word_at bs 4) × (word_at bs 4 ≤ 32) × (1 ≤ word_at bs 6) × (word_at bs 6 ≤ 8)
 Ranged bs (task d) = (w : ℕ) → TaskAt bs (place (task d)) w → WorkInRange w
 Ranged bs (more d) = (t : Transfer) → TransferAt bs (place (more d)) t → InRange d.tasks t
 
@@ -76,18 +82,31 @@ Sound bs d t = Whole bs (more d) × TransferAt bs (place (more d)) t × InRange 
 -- what a refusal tells: the first record that breaks a rule, and the first rule that it breaks
 pub data Refused (bs : List ℕ) : Refusal → Type 0 where
   -- the record is not whole
-  short : (u : Due) → Before bs u → length bs < end bs u → Refused bs (record { number = 1; place = place u; layer = Bytes })
+  short : (u : Due) → Before bs u → length bs < end bs u
+      → Refused bs (record { number = 1; place = place u; layer = Bytes })
   -- its kind is not due
-  kind : (u : Due) → Whole bs u → ((n : ℕ) → Fits u (word_at bs (place u + 2)) n → ⊥) → Refused bs (record { number = 2; place = place u; layer = Records })
+  kind : (u : Due) → Whole bs u → ((n : ℕ) → Fits u (word_at bs (place u + 2)) n → ⊥)
+      → Refused bs (record { number = 2; place = place u; layer = Records })
   -- its payload length is not the one that its kind wants
-  payload : (u : Due) (n : ℕ) → Whole bs u → Fits u (word_at bs (place u + 2)) n → (word_at bs (place u) ≢ n) → Refused bs (record { number = 3; place = place u; layer = Records })
+  payload : (u : Due) (n : ℕ) → Whole bs u → Fits u (word_at bs (place u + 2)) n
+      → (word_at bs (place u) ≢ n)
+      → Refused bs (record { number = 3; place = place u; layer = Records })
   -- a number is out of range, or from equals to
-  range : (u : Due) → Formed bs u → (Ranged bs u → ⊥) → Refused bs (record { number = 4; place = place u; layer = Graph })
+  range : (u : Due) → Formed bs u → (Ranged bs u → ⊥)
+      → Refused bs (record { number = 4; place = place u; layer = Graph })
   -- it is a transfer after 128 transfers
-  many : (d : Description) (t : Transfer) → Sound bs d t → length d.transfers ≡ 128 → Refused bs (record { number = 5; place = place (more d); layer = Graph })
+  many : (d : Description) (t : Transfer) → Sound bs d t → length d.transfers ≡ 128
+      → Refused bs (record { number = 5; place = place (more d); layer = Graph })
   -- it is a transfer whose pair came before
-  twice : (d : Description) (t : Transfer) (k : ℕ) → Sound bs d t → length d.transfers < 128 → k < length d.transfers → (get_or d.transfers k blank).from ≡ t.from → (get_or d.transfers k blank).to ≡ t.to → Refused bs (record { number = 6; place = place (more d); layer = Graph })
+  twice : (d : Description) (t : Transfer) (k : ℕ) → Sound bs d t → length d.transfers < 128
+      → k < length d.transfers → (slice_index_or d.transfers k blank).from ≡ t.from
+      → (slice_index_or d.transfers k blank).to ≡ t.to
+      → Refused bs (record { number = 6; place = place (more d); layer = Graph })
   -- it is the last record, and bytes follow it
-  tail : (d : Description) → Whole bs (more d) → RecordAt bs (place (more d)) 4 0 → place (more d) + 4 < length bs → Refused bs (record { number = 7; place = place (more d) + 4; layer = Records })
+  tail : (d : Description) → Whole bs (more d) → RecordAt bs (place (more d)) 4 0
+      → place (more d) + 4 < length bs
+      → Refused bs (record { number = 7; place = place (more d) + 4; layer = Records })
   -- every record is in order, and there is a cycle
-  cycle : (d : Description) (t : ℕ) → Encodes bs d → LawfulButForCycles (described d) → LowestOnCycle (described d) t → Refused bs (record { number = 8; place = 8 + 6 * t; layer = Graph })
+  cycle : (d : Description) (t : ℕ) → Encodes bs d → LawfulButForCycles (described d)
+      → LowestOnCycle (described d) t
+      → Refused bs (record { number = 8; place = 8 + 6 * t; layer = Graph })

@@ -1,4 +1,4 @@
-use Rattle.std.specs.Prelude.{ℕ, Bool, ◌&&◌, List, length, ◌==◌, slice_index, slice_index_or}
+use Rattle.std.specs.Prelude.{ℕ, Bool, ◌&&◌, List, length, take, ◌==◌, slice_index, slice_index_or}
 use Rattle.model.specs.Range.{any}
 use Rattle.model.specs.Graph.{Graph}
 use Rattle.loader.specs.declared.transfer.Transfer.{Transfer}
@@ -19,6 +19,12 @@ graph_of tasks machines works count transfers = record {
   cost = λ k. (slice_index_or transfers k blank).cost;
 }
 
+-- the graph of the first works and transfers of longer lists
+abbrev pub front_graph : ℕ → ℕ → List ℕ → ℕ → List Transfer → Graph
+front_graph tasks machines works count transfers =
+    graph_of tasks machines (take tasks works) count (take count transfers)
+
 -- whether one of the transfers leads from a to b
 unfoldable pub leads : List Transfer → ℕ → ℕ → Bool
-leads ts a b = any (length ts) (λ k. ((slice_index_or ts k blank).from == a) && (slice_index_or ts k blank).to == b)
+leads ts a b = any (length ts) (λ k.
+    ((slice_index_or ts k blank).from == a) && (slice_index_or ts k blank).to == b)

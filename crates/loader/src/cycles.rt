@@ -1,37 +1,62 @@
-ghost use Rattle.std.specs.Prelude.{◌≡◌, ℕ, ◌+◌, ◌*◌, ◌/◌, ◌%◌, ◌<◌, ◌≤◌, false, ◌&&◌, ◌||◌, List, length, slice_index_or};
-ghost use Rattle.model.specs.Cycles.{reach, cyclic};
+ghost use Rattle.std.specs.Prelude.{◌≡◌, ℕ, ◌<◌, ◌≤◌, ◌&&◌, ◌||◌, List, length, false, slice_index_or};
+ghost use Rattle.model.specs.Range.{lowest};
+ghost use Rattle.model.specs.Cycles.{reach};
+ghost use Rattle.loader.specs.Tables.{each_task, entry, table_of};
 ghost use Rattle.loader.specs.View.{leads, graph_of};
 
 use crate::pairs::joined;
 use crate::transfer::Transfer;
+use std::array;
 
-// The table of direct transfers: place 32 * a + b tells of a and b.
-fn direct(transfers: &[Transfer]) -> [bool; 1024]
-    ensures { (k : ℕ) → k < 1024 → slice_index_or result k false ≡ leads transfers.now (k / 32) (k % 32) }
+// Place `[a][b]` tells of tasks a and b.
+type Table = [[bool; 32]; 32];
+
+// The row of task `a`: where its own transfers lead.
+fn direct_row(transfers: &[Transfer], a: usize) -> [bool; 32]
+    ensures { result ≡ each_task (leads transfers.now a) }
 {
-    let mut table = [false; 1024];
-    for i in 0..1024 {
-        table[i] = joined(transfers, i / 32, i % 32);
+    array::from_fn(|b| joined(transfers, a, b))
+}
+
+// The table of direct transfers. By `array::from_fn` its proof did not close: nothing is told of a closure that answers
+// an array.
+fn direct(transfers: &[Transfer]) -> Table
+    ensures { result ≡ table_of (leads transfers.now) }
+{
+    let mut table = [[false; 32]; 32];
+    for (a, row) in table.iter_mut().enumerate() {
+        *row = direct_row(transfers, a);
     }
     table
 }
 
-// The table with chains through `mid` too.
-fn through(old: &[bool; 1024], mid: usize) -> [bool; 1024]
+// The row of a task with chains through `mid` too, whose row is `onward`.
+fn row_through(row: &[bool; 32], mid: usize, onward: &[bool; 32]) -> [bool; 32]
     requires { mid < 32 }
-    ensures { (k : ℕ) → k < 1024 → slice_index_or result k false ≡ (slice_index_or old.now k false || (slice_index_or old.now (k / 32 * 32 + mid) false && slice_index_or old.now (mid * 32 + k % 32) false)) }
+    ensures { result ≡ each_task (λ b. slice_index_or row.now b false
+        || (slice_index_or row.now mid false && slice_index_or onward.now b false)) }
 {
-    let mut table = [false; 1024];
-    for i in 0..1024 {
-        table[i] = old[i] || (old[i / 32 * 32 + mid] && old[mid * 32 + i % 32]);
+    array::from_fn(|b| row[b] || (row[mid] && onward[b]))
+}
+
+// The table with chains through `mid` too. Row by row, for the same reason.
+fn through(old: &Table, mid: usize) -> Table
+    requires { mid < 32 }
+    ensures { result ≡ table_of (λ a b.
+        entry old.now a b || (entry old.now a mid && entry old.now mid b)) }
+{
+    let mut table = *old;
+    for row in table.iter_mut() {
+        *row = row_through(row, mid, &old[mid]);
     }
     table
 }
 
 // The table of all chains between tasks. Machines and works do not matter.
-fn closed(tasks: usize, transfers: &[Transfer]) -> [bool; 1024]
+fn closed(tasks: usize, transfers: &[Transfer]) -> Table
     requires { tasks ≤ 32 }
-    ensures { (p : ℕ) (ws : List ℕ) (k : ℕ) → k < 1024 → slice_index_or result k false ≡ reach (graph_of tasks p ws (length transfers.now) transfers.now) tasks (k / 32) (k % 32) }
+    ensures { (p : ℕ) (ws : List ℕ) → result
+        ≡ table_of (reach (graph_of tasks p ws (length transfers.now) transfers.now) tasks) }
 {
     let mut table = direct(transfers);
     for mid in 0..tasks {
@@ -40,16 +65,12 @@ fn closed(tasks: usize, transfers: &[Transfer]) -> [bool; 1024]
     table
 }
 
-// The lowest task on a cycle, or `tasks`. Machines and works do not matter.
-pub(crate) fn lowest_on_cycle(tasks: usize, transfers: &[Transfer]) -> usize
+// The lowest task on a cycle, if there is one. Machines and works do not matter.
+pub(crate) fn lowest_on_cycle(tasks: usize, transfers: &[Transfer]) -> Option<usize>
     requires { tasks ≤ 32 }
-    ensures { (p : ℕ) (ws : List ℕ) → result ≡ cyclic (graph_of tasks p ws (length transfers.now) transfers.now) }
+    ensures { (p : ℕ) (ws : List ℕ) → result ≡ lowest tasks
+        (λ t. reach (graph_of tasks p ws (length transfers.now) transfers.now) tasks t t) }
 {
     let table = closed(tasks, transfers);
-    for t in 0..tasks {
-        if table[33 * t] {
-            return t;
-        }
-    }
-    tasks
+    (0..tasks).find(|&t| table[t][t])
 }

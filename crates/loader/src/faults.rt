@@ -3,13 +3,13 @@ ghost use Rattle.loader.specs.declared.faults.RecordsFault.TheVariants.{Bytes};
 ghost use Rattle.loader.specs.declared.faults.GraphFault.TheVariants.{Records};
 
 // The bytes do not hold the whole record that begins at `place`.
-#[derive(Clone, Copy)]
+#[derive(Clone, Copy, PartialEq, Eq, Debug)]
 pub struct BytesFault {
     pub place: usize,
 }
 
 // A record is not the one that is due, or bytes follow the last one. Each case has the place.
-#[derive(Clone, Copy)]
+#[derive(Clone, Copy, PartialEq, Eq, Debug)]
 pub enum RecordsFault {
     Bytes(BytesFault),
     Kind(usize),
@@ -18,7 +18,7 @@ pub enum RecordsFault {
 }
 
 // The numbers of a record break the law of a graph, or the whole has a cycle.
-#[derive(Clone, Copy)]
+#[derive(Clone, Copy, PartialEq, Eq, Debug)]
 pub enum GraphFault {
     Records(RecordsFault),
     Range(usize),

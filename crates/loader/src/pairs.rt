@@ -7,10 +7,7 @@ use crate::transfer::Transfer;
 pub(crate) fn joined(transfers: &[Transfer], from: usize, to: usize) -> bool
     ensures { result ≡ leads transfers.now from to }
 {
-    for i in 0..transfers.len() {
-        if transfers[i].from as usize == from && transfers[i].to as usize == to {
-            return true;
-        }
-    }
-    false
+    transfers
+        .iter()
+        .any(|e| usize::from(e.from) == from && usize::from(e.to) == to)
 }

@@ -1,124 +1,140 @@
-ghost use Rattle.std.specs.Prelude.{◌≡◌, ◌+◌, ◌*◌, ◌<◌, ◌≤◌, length, take, Ok, Err, MatchResult};
+ghost use Rattle.std.specs.Prelude.{◌≡◌, ◌+◌, ◌≤◌, length, take, Ok, Err, IfOk, MatchResult, MatchOption};
 ghost use Rattle.loader.specs.Layout.{place_of};
 ghost use Rattle.loader.specs.Parse.{header_at, work_at, read_works, transfer_at, next_at, read_transfers, end_at};
+ghost use Rattle.loader.specs.Chaining.{unless_refused};
 
-use crate::bytes::number;
 use crate::faults::{GraphFault, RecordsFault};
-use crate::next::Next;
 use crate::pairs::joined;
-use crate::records::{due, more};
+use crate::records::{RecordKind, Records};
+use crate::sizes::Sizes;
 use crate::transfer::Transfer;
+use crate::transfer_list::TransferList;
 
-// The transfers that a file gives: the first `count` of the list.
-#[derive(Clone, Copy)]
-pub(crate) struct TransferList {
-    pub(crate) count: usize,
-    pub(crate) list: [Transfer; 128],
-}
-
-// The numbers of tasks and machines that the first record gives.
-pub(crate) fn read_header(bytes: &[u8]) -> Result<(usize, usize), GraphFault>
-    ensures { result ≡ header_at bytes.now }
+// The numbers of tasks and machines that the first record of a file gives, and the records after it.
+pub(crate) fn read_header(bytes: &[u8]) -> Result<(Sizes, Records<'_>), GraphFault>
+    ensures is { MatchResult result
+        (λ r. header_at bytes.now ≡ Ok (r.0.tasks, r.0.machines))
+        (λ e. header_at bytes.now ≡ Err e) }
+    ensures bytes { IfOk result (λ r. r.1.bytes.now ≡ bytes.now) }
+    ensures at { IfOk result (λ r. r.1.at ≡ 8) }
 {
-    let body = due(bytes, 0, 1, 4)?;
-    let tasks = number(bytes, body);
-    let machines = number(bytes, body + 2);
+    let mut records = Records::new(bytes);
+    let body = records.due(RecordKind::Head)?;
+    let tasks = records.number(body);
+    let machines = records.number(body + 2);
     if tasks < 1 || tasks > 32 || machines < 1 || machines > 8 {
         return Err(GraphFault::Range(0));
     }
-    Ok((tasks as usize, machines as usize))
+    records.pass(RecordKind::Head);
+    let sizes = Sizes {
+        tasks: usize::from(tasks),
+        machines: usize::from(machines),
+    };
+    Ok((sizes, records))
 }
 
-// The work that the record at `at` gives.
-fn read_work(bytes: &[u8], at: usize) -> Result<u16, GraphFault>
-    requires { at ≤ length bytes.now }
-    ensures { result ≡ work_at bytes.now at }
+// The work that the record of a task gives.
+fn read_work(records: &mut Records) -> Result<u16, GraphFault>
+    ensures is { result ≡ work_at records.old.bytes.now records.old.at }
+    ensures bytes { records.new.bytes.now ≡ records.old.bytes.now }
+    ensures at { records.new.at ≡ unless_refused result (records.old.at + 6) records.old.at }
 {
-    let body = due(bytes, at, 2, 2)?;
-    let work = number(bytes, body);
+    let body = records.due(RecordKind::Task)?;
+    let work = records.number(body);
     if work < 1 || work > 1000 {
-        return Err(GraphFault::Range(at));
+        return Err(GraphFault::Range(records.at));
     }
+    records.pass(RecordKind::Task);
     Ok(work)
 }
 
-// The works of all tasks.
-pub(crate) fn read_works(bytes: &[u8], tasks: usize) -> Result<[u16; 32], GraphFault>
-    requires { (tasks ≤ 32) × (8 ≤ length bytes.now) }
-    ensures { MatchResult result (λ v. read_works bytes.now tasks ≡ Ok (take tasks v)) (λ e. read_works bytes.now tasks ≡ Err e) }
+// The works of all tasks, in fixed memory, as the graph keeps them.
+pub(crate) fn read_works(records: &mut Records, sizes: Sizes) -> Result<[u16; 32], GraphFault>
+    requires { records.old.at ≡ 8 }
+    ensures is { MatchResult result
+        (λ v. read_works records.old.bytes.now sizes.tasks ≡ Ok (take sizes.tasks v))
+        (λ e. read_works records.old.bytes.now sizes.tasks ≡ Err e) }
+    ensures bytes { records.new.bytes.now ≡ records.old.bytes.now }
+    ensures at { IfOk result (λ _. records.new.at ≡ place_of sizes.tasks 0) }
 {
     let mut works = [0; 32];
-    for i in 0..tasks {
-        works[i] = read_work(bytes, 8 + 6 * i)?;
+    for work in works[..sizes.tasks].iter_mut() {
+        *work = read_work(records)?;
     }
     Ok(works)
 }
 
-// The transfer that the record at `at` gives, after those before it.
+// The transfer that the first record gives, after those before it.
 fn read_transfer(
-    bytes: &[u8],
-    at: usize,
-    tasks: usize,
+    records: &Records,
+    sizes: Sizes,
     before: &[Transfer],
-) -> Result<Next, GraphFault>
-    requires { at + 10 ≤ length bytes.now }
-    ensures { result ≡ transfer_at bytes.now tasks before.now at }
+) -> Result<Transfer, GraphFault>
+    requires { records.now.at + 10 ≤ length records.now.bytes.now }
+    ensures { result ≡ transfer_at records.now.bytes.now sizes.tasks before.now records.now.at }
 {
-    let from = number(bytes, at + 4);
-    let to = number(bytes, at + 6);
-    let cost = number(bytes, at + 8);
-    if from as usize >= tasks || to as usize >= tasks || cost > 1000 || from == to {
+    let at = records.at;
+    let from = records.number(at + 4);
+    let to = records.number(at + 6);
+    let cost = records.number(at + 8);
+    let (a, b) = (usize::from(from), usize::from(to));
+    if a >= sizes.tasks || b >= sizes.tasks || cost > 1000 || a == b {
         return Err(GraphFault::Range(at));
     }
     if before.len() >= 128 {
         return Err(GraphFault::TooMany(at));
     }
-    if joined(before, from as usize, to as usize) {
+    if joined(before, a, b) {
         return Err(GraphFault::Twice(at));
     }
-    Ok(Next::More(Transfer { from, to, cost }))
+    Ok(Transfer { from, to, cost })
 }
 
-// The next transfer, or the last record.
-fn read_next(bytes: &[u8], at: usize, tasks: usize, before: &[Transfer]) -> Result<Next, GraphFault>
-    requires { at ≤ length bytes.now }
-    ensures { result ≡ next_at bytes.now tasks before.now at }
+// The next transfer, or none at the last record. The cursor moves and the sizes stay: as one value they would be no
+// plainer.
+fn read_next(
+    records: &mut Records,
+    sizes: Sizes,
+    before: &[Transfer],
+) -> Result<Option<Transfer>, GraphFault>
+    ensures is { result ≡ next_at records.old.bytes.now sizes.tasks before.now records.old.at }
+    ensures bytes { records.new.bytes.now ≡ records.old.bytes.now }
+    ensures at { MatchResult result (λ r. MatchOption r (records.new.at ≡ records.old.at + 4)
+        (λ _. records.new.at ≡ records.old.at + 10))
+        (λ _. records.new.at ≡ records.old.at) }
 {
-    if more(bytes, at)? {
-        read_transfer(bytes, at, tasks, before)
-    } else {
-        Ok(Next::End)
+    if !records.more()? {
+        records.pass(RecordKind::End);
+        return Ok(None);
     }
+    let transfer = read_transfer(records, sizes, before)?;
+    records.pass(RecordKind::Transfer);
+    Ok(Some(transfer))
 }
 
 // The transfers that follow the tasks.
-pub(crate) fn read_transfers(bytes: &[u8], tasks: usize) -> Result<TransferList, GraphFault>
-    requires { (tasks ≤ 32) × (place_of tasks 0 ≤ length bytes.now) }
-    ensures { MatchResult result (λ v. (v.count ≤ 128) × (length v.list ≡ 128) × (read_transfers bytes.now tasks ≡ Ok (take v.count v.list))) (λ e. read_transfers bytes.now tasks ≡ Err e) }
+pub(crate) fn read_transfers(
+    records: &mut Records,
+    sizes: Sizes,
+) -> Result<TransferList, GraphFault>
+    requires { records.old.at ≡ place_of sizes.tasks 0 }
+    ensures is { result ≡ read_transfers records.old.bytes.now sizes.tasks }
+    ensures bytes { records.new.bytes.now ≡ records.old.bytes.now }
+    ensures at { IfOk result (λ ts. records.new.at ≡ place_of sizes.tasks (length ts) + 4) }
 {
-    let mut list = [Transfer {
-        from: 0,
-        to: 0,
-        cost: 0,
-    }; 128];
-    let mut count = 0;
-    loop {
-        match read_next(bytes, 8 + 6 * tasks + 10 * count, tasks, &list[0..count])? {
-            Next::End => return Ok(TransferList { count, list }),
-            Next::More(t) => {
-                list[count] = t;
-                count += 1;
-            }
-        }
+    let mut transfers = TransferList::new();
+    while let Some(transfer) = read_next(records, sizes, transfers.as_slice())? {
+        transfers.push(transfer);
     }
+    Ok(transfers)
 }
 
 // Refuses bytes that follow the last record.
-pub(crate) fn read_end(bytes: &[u8], at: usize) -> Result<(), GraphFault>
-    ensures { result ≡ end_at bytes.now at }
+pub(crate) fn read_end(records: &Records) -> Result<(), GraphFault>
+    ensures { result ≡ end_at records.now.bytes.now records.now.at }
 {
-    if bytes.len() > at {
-        return Err(GraphFault::Records(RecordsFault::Tail(at)));
+    if records.bytes.len() > records.at {
+        return Err(GraphFault::Records(RecordsFault::Tail(records.at)));
     }
     Ok(())
 }

@@ -1,5 +1,8 @@
-use Rattle.std.proofs.Common.{◌≡◌, ℕ, ◌+◌, ◌*◌, ◌/◌, ◌%◌, ◌<◌, false, ◌&&◌, ◌||◌, length, get_or}
+use Rattle.std.proofs.Common.{◌≡◌, ℕ, ◌<◌, ◌≤◌, ◌&&◌, ◌||◌, [], length, get_or}
+use Rattle.loader.specs.Tables.{each_task, entry}
 use Rattle.loader.proofs.cycles.through.Given as goal
 
-abbrev pub invariant-loop-i : goal.invariant-loop-i
-invariant-loop-i l = ((k : ℕ) → k < l.i → get_or l.table k false ≡ (get_or l.old k false || (get_or l.old (k / 32 * 32 + l.mid) false && get_or l.old (l.mid * 32 + k % 32) false))) × (length l.table ≡ 1024)
+abbrev pub invariant-loop-row : goal.invariant-loop-row
+invariant-loop-row l = (length l.row-items ≡ 32)
+    × ((k : ℕ) → k < l.row-index → get_or l.row-items k [] ≡ each_task (λ b. entry l.old k b || (entry l.old k l.mid && entry l.old l.mid b)))
+    × ((k : ℕ) → l.row-index ≤ k → get_or l.row-items k [] ≡ get_or l.old k [])

@@ -1,19 +1,21 @@
-use Rattle.std.proofs.Common.{◌≡◌, ℕ, length, get_or, ap, ◌∙◌, arith}
+use Rattle.std.proofs.Common.{◌≡◌, ℕ, List, length, get_or, ap, ◌∙◌, arith}
 use Rattle.model.specs.Graph.{longest, level}
 use Rattle.model.proofs.Levels.{longest-small, longest-more}
 use Rattle.loader.specs.View.{graph_of}
+use Rattle.loader.proofs.Tables.{get_or-each_task}
 use Rattle.loader.proofs.levels.bottom_levels.Goals as goal
 
+pub loop-round-init : goal.loop-round-init
+loop-round-init c p t h =
+    let ws = c.args.works.now in
+    ap (λ (l : List ℕ). get_or l t 0) c.widened-low.ensures ∙ get_or-each_task (λ t. get_or ws t 0) 0 t (omega arith)
+
 pub raised-low-requires : goal.raised-low-requires
-raised-low-requires c =
+raised-low-requires c t h =
     let ws = c.args.works.now in
     let ts = c.args.transfers.now in
     let g = graph_of (length ws) 0 ws (length ts) ts in
-    record {
-      sizes = c.requires.sizes;
-      inside = λ k h. (c.requires.ends k h).1;
-      small = λ t h. omega (arith, c.loop-round.invariant 0 t h, longest-small g c.requires.ends c.requires.small c.loop-round._round t h, c.loop-round-test.true, c.requires.sizes);
-    }
+    omega (arith, c.loop-round.invariant 0 t h, longest-small g c.requires.ends c.requires.small c.loop-round._round t h, c.loop-round-test.true, c.requires.sizes)
 
 pub loop-round-preserved : goal.loop-round-preserved
 loop-round-preserved c p t h =

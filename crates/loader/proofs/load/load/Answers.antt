@@ -1,7 +1,5 @@
-use Rattle.std.proofs.Common.{refl, arith}
+use Rattle.std.proofs.Common.{refl}
 use Rattle.std.proofs.lemmas.Result.{err_from_is_err_and}
-use Rattle.loader.specs.Meaning.{description}
-use Rattle.loader.proofs.Laws.{described-graph}
 use Rattle.loader.proofs.Parsing.{parse-told, parse-refuses}
 use Rattle.loader.proofs.Refusing.{parse-refused}
 use Rattle.loader.proofs.Converse.{refused-only, refused-never}
@@ -14,9 +12,8 @@ returns-in_err-graph c =
     let bs = c.args.bytes.now in
     rw (p.1, p.2) (record { is = (k, refl); means = tt; exactly = parse-refuses bs _ k; refused = parse-refused bs _ k; only = refused-only bs _ k })
 
-pub returns : goal.returns
-returns c =
-    let k = c.in_ok-graph.ensures in
-    let bs = c.args.bytes.now in
-    let d = description c.in_ok-graph.field-0 in
-    record { is = k; means = described-graph c.in_ok-graph.field-0 (omega arith); exactly = parse-told bs d k; refused = tt; only = refused-never bs d k }
+pub returns-clause-exactly : goal.returns-clause-exactly
+returns-clause-exactly c = parse-told c.args.bytes.now _ c.in_ok-graph.ensures
+
+pub returns-clause-only : goal.returns-clause-only
+returns-clause-only c = refused-never c.args.bytes.now _ c.in_ok-graph.ensures

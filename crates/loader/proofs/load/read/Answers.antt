@@ -1,31 +1,23 @@
-use Rattle.std.proofs.Common.{Ok, Err, sym, refl, ap, ◌∙◌, arith}
+use Rattle.std.proofs.Common.{Ok, Err, sym, refl, ap, ◌∙◌}
 use Rattle.std.proofs.lemmas.Result.{err_from_is_err_and}
-use Rattle.loader.proofs.SingleRecords.{header-range}
-use Rattle.loader.proofs.WorksRead.{works-inside}
-use Rattle.loader.proofs.Assembling.{whole-parsed, whole-lawful}
+use Rattle.loader.specs.Meaning.{description_of}
+use Rattle.loader.specs.Parse.{decode, cycle_test}
+use Rattle.loader.proofs.Chaining.{and_then-at}
+use Rattle.loader.proofs.Assembling.{decoded-lawful}
 use Rattle.loader.proofs.load.read.Goals as goal
-
-pub read_transfers-requires : goal.read_transfers-requires
-read_transfers-requires c =
-    let h = header-range c.args.bytes.now c.in_ok-tasks.tasks c.in_ok-tasks.machines (sym c.in_ok-tasks.ensures) in
-    let t = works-inside c.args.bytes.now c.in_ok-tasks.tasks _ h.4 c.in_ok-works.ensures in
-    (h.1, omega arith)
 
 pub returns-in_err-refuse_cycle : goal.returns-in_err-refuse_cycle
 returns-in_err-refuse_cycle c =
     let p = err_from_is_err_and c.from_residual-in_err-refuse_cycle.result c.from_residual-in_err-refuse_cycle.ensures.1 in
-    let m = c.in_ok-transfers.ensures in
-    rw (p.1, p.2) (whole-parsed c.args.bytes.now c.in_ok-works.works c.in_ok-transfers.transfers.list c.in_ok-tasks.tasks c.in_ok-tasks.machines c.in_ok-transfers.transfers.count
-    (sym c.in_ok-tasks.ensures) c.in_ok-works.ensures m.2 (omega (arith, m.0, m.1)) (sym c.in_ok-read_end.ensures) (Err _) (c.in_err-refuse_cycle.ensures _ refl refl))
+    let d = description_of c.in_ok-sizes.sizes c.in_ok-sizes.works c.in_ok-sizes.transfers in
+    rw (p.1, p.2) (and_then-at (decode c.args.bytes.now) cycle_test d (Err _) c.in_ok-sizes.ensures (c.in_err-refuse_cycle.ensures d refl (sym c.as_slice.ensures)))
 
 pub build-requires : goal.build-requires
 build-requires c =
-    let m = c.in_ok-transfers.ensures in
-    whole-lawful c.args.bytes.now c.in_ok-works.works c.in_ok-transfers.transfers.list c.in_ok-tasks.tasks c.in_ok-tasks.machines c.in_ok-transfers.transfers.count
-    (sym c.in_ok-tasks.ensures) c.in_ok-works.ensures m.2 (omega (arith, m.0, m.1)) (sym c.in_ok-read_end.ensures) (c.in_ok-refuse_cycle.ensures _ refl refl)
+    let d = description_of c.in_ok-sizes.sizes c.in_ok-sizes.works c.in_ok-sizes.transfers in
+    decoded-lawful c.args.bytes.now d c.in_ok-sizes.ensures (c.in_ok-refuse_cycle.ensures d refl (sym c.as_slice.ensures))
 
 pub returns : goal.returns
 returns c =
-    let m = c.in_ok-transfers.ensures in
-    whole-parsed c.args.bytes.now c.in_ok-works.works c.in_ok-transfers.transfers.list c.in_ok-tasks.tasks c.in_ok-tasks.machines c.in_ok-transfers.transfers.count
-    (sym c.in_ok-tasks.ensures) c.in_ok-works.ensures m.2 (omega (arith, m.0, m.1)) (sym c.in_ok-read_end.ensures) (Ok _) (c.in_ok-refuse_cycle.ensures _ refl refl ∙ ap Ok (sym c.build.ensures))
+    let d = description_of c.in_ok-sizes.sizes c.in_ok-sizes.works c.in_ok-sizes.transfers in
+    and_then-at (decode c.args.bytes.now) cycle_test d (Ok _) c.in_ok-sizes.ensures (c.in_ok-refuse_cycle.ensures d refl (sym c.as_slice.ensures) ∙ ap Ok (sym c.build.ensures))

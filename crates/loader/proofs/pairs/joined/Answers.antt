@@ -1,18 +1,16 @@
-use Rattle.std.proofs.Common.{◌&&◌, eqb, length, get_or, sym, arith}
-use Rattle.std.proofs.lemmas.Bool.{and_from, eq-eqb}
-use Rattle.model.proofs.Range.{any-on, any-off}
+use Rattle.std.proofs.Common.{◌≡◌, ◌&&◌, nat_eq, sym, ◌∙◌, rules, tests}
+use Rattle.std.specs.List.{list_any}
+use Rattle.std.proofs.lemmas.Iterator.{YieldsList-from_slice}
+use Rattle.std.proofs.lemmas.Iterator.Search.{any_from_yields_List}
+use Rattle.model.proofs.Chains.{any-listed}
+use Rattle.loader.specs.declared.transfer.Transfer.{Transfer}
 use Rattle.loader.specs.View.{blank, leads}
 use Rattle.loader.proofs.pairs.joined.Goals as goal
-
-pub returns-then-transfers-i-2 : goal.returns-then-transfers-i-2
-unfolding leads
-returns-then-transfers-i-2 c =
-    let ts = c.args.transfers.now in
-    sym (any-on (length ts) c.loop-i.i (λ k. eqb (get_or ts k blank).from c.args.from && eqb (get_or ts k blank).to c.args.to) c.loop-i-test.true
-    (and_from _ _ (eq-eqb _ _ c.if-transfers-i.true) (eq-eqb _ _ c.if-transfers-i-2.true)))
 
 pub returns : goal.returns
 unfolding leads
 returns c =
     let ts = c.args.transfers.now in
-    sym (any-off (length ts) (λ k. eqb (get_or ts k blank).from c.args.from && eqb (get_or ts k blank).to c.args.to) (λ k h. c.loop-i.invariant k (omega (arith, c.loop-i-test.false))))
+    let joins = λ (e : Transfer). nat_eq e.from c.args.from && nat_eq e.to c.args.to in
+    let e : c.any.result ≡ list_any joins ts = any_from_yields_List joins _ _ c.any.result c.any.ensures.ran (YieldsList-from_slice ts cc) (λ x b q k. search (rules, tests)) in
+    e ∙ sym (any-listed joins blank ts)

@@ -1,10 +1,10 @@
-use Rattle.std.proofs.Common.{◌≡◌, ◌-◌, ◌≤◌, length, take}
+use Rattle.std.proofs.Common.{◌≡◌, ◌-◌, ◌≤◌, length}
 use Rattle.loader.specs.Layout.{place_of}
 use Rattle.loader.specs.Parse.{after, reading}
 use Rattle.loader.proofs.read.read_transfers.Given as goal
 
-abbrev pub invariant-loop-list : goal.invariant-loop-list
-invariant-loop-list l = (after l.bytes l.tasks l.count ≡ reading (take l.count l.list)) × (place_of l.tasks l.count ≤ length l.bytes) × (length l.list ≡ 128) × (l.count ≤ 128)
+abbrev pub invariant-loop-transfer : goal.invariant-loop-transfer
+invariant-loop-transfer l = (after l.fn.records.bytes.now l.sizes.tasks (length l.transfers) ≡ reading l.transfers) × (l.records.at ≡ place_of l.sizes.tasks (length l.transfers)) × (l.records.bytes.now ≡ l.fn.records.bytes.now) × (length l.transfers ≤ 128)
 
-abbrev pub decreases-loop-list : goal.decreases-loop-list
-decreases-loop-list l = 129 - l.count
+abbrev pub decreases-loop-transfer : goal.decreases-loop-transfer
+decreases-loop-transfer l = 129 - length l.transfers

@@ -1,6 +1,6 @@
-use Rattle.std.proofs.Common.{◌≡◌, ◌+◌, ◌*◌, ◌≤◌, length, take, Ok}
+use Rattle.std.proofs.Common.{◌≡◌, ◌+◌, ◌*◌, length, take, Ok}
 use Rattle.loader.specs.Parse.{read_works}
 use Rattle.loader.proofs.read.read_works.Given as goal
 
-abbrev pub invariant-loop-i : goal.invariant-loop-i
-invariant-loop-i l = (read_works l.bytes l.i ≡ Ok (take l.i l.works)) × (8 + 6 * l.i ≤ length l.bytes) × (length l.works ≡ 32)
+abbrev pub invariant-loop-work : goal.invariant-loop-work
+invariant-loop-work l = (read_works l.fn.records.bytes.now l.work-index ≡ Ok (take l.work-index l.work-items)) × (l.records.at ≡ 8 + 6 * l.work-index) × (l.records.bytes.now ≡ l.fn.records.bytes.now) × (length l.work-items ≡ l.fn.sizes.tasks)

@@ -14,12 +14,16 @@ only P p (suc t) h = absurd (omega arith)
 pub invariant_of-result : goal.invariant_of-result
 unfolding level
 invariant_of-result c = record {
-  sizes = omega arith;
-  worked = only _ (omega arith);
-  priced = λ k h. absurd (omega arith);
-  ends = λ k h. absurd (omega arith);
-  apart = λ k h e. absurd (omega arith);
-  pairs = λ i j s. omega (arith, s.1);
-  acyclic = λ t x. no-chain _ refl x;
+  lawful = record {
+    numbers = record {
+      sizes = omega arith;
+      works = only _ (omega arith);
+      costs = λ k h. absurd (omega arith);
+      ends = λ k h. absurd (omega arith);
+      apart = λ k h e. absurd (omega arith);
+      pairs = λ i j s. omega (arith, s.1);
+    };
+    acyclic = λ t x. no-chain _ refl x;
+  };
   bottom = only _ refl;
 }
