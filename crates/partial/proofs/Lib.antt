@@ -1,3 +1,4 @@
 pub mod Filled
+pub mod Deciding
 pub mod Placing
 pub mod Naming

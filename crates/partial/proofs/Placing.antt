@@ -8,15 +8,17 @@ use Rattle.partial.specs.declared.placement.Placement.{Placement}
 use Rattle.partial.specs.Places.{placed_of, machine_of, start_of, partial_of}
 
 -- a placement written is a task placed
-written : (q : List (Option Placement)) (t m v : ℕ) → t < length q → partial_of (set q t (Some (record { machine = m; start = v }))) ≡ place (partial_of q) t m v
-written q t m v h = λ i. record { placed = λ u. at Bool placed_of u i; machine = λ u. at ℕ machine_of u i; start = λ u. at ℕ start_of u i }
+written : (q : List (Option Placement)) (t : ℕ) (x : Placement) → t < length q → partial_of (set q t (Some x)) ≡ place (partial_of q) t x.machine x.start
+written q t x h = λ i. record { placed = λ u. at Bool placed_of u i; machine = λ u. at ℕ machine_of u i; start = λ u. at ℕ start_of u i }
   where
-    at : (B : Type 0) (f : Option Placement → B) (u : ℕ) → f (get_or (set q t (Some (record { machine = m; start = v }))) u None) ≡ put (λ u. f (get_or q u None)) t (f (Some (record { machine = m; start = v }))) u
+    at : (B : Type 0) (f : Option Placement → B) (u : ℕ) → f (get_or (set q t (Some x)) u None) ≡ put (λ u. f (get_or q u None)) t (f (Some x)) u
     at B f u = elim (ℕ_discrete u t) [
-      | yes z ↦ ap (λ k. f (get_or (set q t (Some (record { machine = m; start = v }))) k None)) z ∙ ap f (get_or-set_same q t (Some (record { machine = m; start = v })) None h) ∙ sym (put_same (λ u. f (get_or q u None)) t (f (Some (record { machine = m; start = v }))) u z)
-      | no nz ↦ ap f (get_or-set_other q t u (Some (record { machine = m; start = v })) None nz) ∙ sym (put_other (λ u. f (get_or q u None)) t (f (Some (record { machine = m; start = v }))) u nz)
+      | yes z ↦ ap (λ k. f (get_or (set q t (Some x)) k None)) z ∙ ap f (get_or-set_same q t (Some x) None h) ∙ sym (put_same (λ u. f (get_or q u None)) t (f (Some x)) u z)
+      | no nz ↦ ap f (get_or-set_other q t u (Some x) None nz) ∙ sym (put_other (λ u. f (get_or q u None)) t (f (Some x)) u nz)
     ]
 
-pub appended : (g : Graph) (q : List (Option Placement)) (t m v : ℕ) → t < length q → v ≡ start_on g (partial_of q) t m → partial_of (set q t (Some (record { machine = m; start = v }))) ≡ append g (partial_of q) t m
+-- one that starts where the model puts it is a task appended
+pub appended : (g : Graph) (q : List (Option Placement)) (t : ℕ) (x : Placement) → t < length q → x.start ≡ start_on g (partial_of q) t x.machine
+    → partial_of (set q t (Some x)) ≡ append g (partial_of q) t x.machine
 unfolding append
-appended g q t m v h e = written q t m v h ∙ ap (place (partial_of q) t m) e
+appended g q t x h e = written q t x h ∙ ap (place (partial_of q) t x.machine) e

@@ -8,7 +8,8 @@ use Rattle.partial.specs.Places.{partial_of}
 abbrev pub the_partial : PartialSchedule → Partial
 the_partial q = partial_of q.places
 
--- task t can be appended on machine m: it is free, the machine is one of the graph's, and 32 bits hold the start
+-- task t can be appended on machine m: it is free, the machine is one of the graph's,
+-- and 32 bits hold the start
 abbrev pub Appendable : Graph → Partial → ℕ → ℕ → Type 0
 Appendable g s t m = Free g s t × (m < g.machines) × (start_on g s t m ≤ 4294967295)
 

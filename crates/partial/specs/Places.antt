@@ -17,4 +17,8 @@ start_of (Some x) = x.start
 
 -- the partial schedule that a list of placements means, task by task
 abbrev pub partial_of : List (Option Placement) → Partial
-partial_of q = record { placed = λ t. placed_of (slice_index_or q t None); machine = λ t. machine_of (slice_index_or q t None); start = λ t. start_of (slice_index_or q t None) }
+partial_of q = record {
+  placed = λ t. placed_of (slice_index_or q t None);
+  machine = λ t. machine_of (slice_index_or q t None);
+  start = λ t. start_of (slice_index_or q t None);
+}

@@ -1,30 +1,30 @@
-ghost use Rattle.std.specs.Prelude.{◌≡◌, ◌^◌, ◌<◌, ◌≤◌, ◌&&◌, Decides, ◌==◌};
-ghost use Rattle.model.specs.Partial.{finish_on, machine_finish, arrival, data_ready, start_on, Free, fed, is_ready, is_free};
+ghost use Rattle.std.specs.Prelude.{◌≡◌, ◌+◌, ◌^◌, ◌≤◌, ◌&&◌, ◌↔◌, IsTrue, ◌==◌};
+ghost use Rattle.model.specs.Partial.{machine_finish, data_ready, start_on, Free, is_ready, is_free};
 ghost use Rattle.loader.specs.Meaning.{the_graph};
 ghost use Rattle.partial.specs.Meaning.{the_partial};
+ghost use Rattle.partial.specs.Transfers.{transfer_arrival, transfer_fed};
 
 use crate::partial::PartialSchedule;
 use loader::graph::TaskGraph;
+use loader::transfer::Transfer;
 
+// Each time promises its bound itself: a type for it would be unwrapped at each sum and comparison.
+// Graph, task and machine stay apart: a caller asks of many tasks and machines, each once.
 impl PartialSchedule {
     // Whether task u is placed on machine m.
     fn lies_on(&self, m: u8, u: usize) -> bool
-        ensures { result ≡ ((the_partial self.now).placed u && (the_partial self.now).machine u == m) }
+        ensures { result ≡ ((the_partial self.now).placed u
+            && (the_partial self.now).machine u == m) }
     {
-        self.is_placed(u) && self.machine(u) == m
+        self.placement(u).is_some_and(|p| p.machine == m)
     }
 
-    // The finish of task u if it is placed on machine m, else 0.
-    fn finish_on(&self, g: &TaskGraph, m: u8, u: usize) -> u64
-        requires { u < (the_graph g.now).tasks }
-        ensures is { result ≡ finish_on (the_graph g.now) (the_partial self.now) m u }
-        ensures small { result ≤ 2 ^ 33 }
+    // The start of task u plus its work, 0 for what it lacks.
+    fn finish(&self, g: &TaskGraph, u: usize) -> u64
+        ensures is { result ≡ (the_partial self.now).start u + (the_graph g.now).work u }
+        ensures small { result ≤ 2 ^ 32 + 2 ^ 16 }
     {
-        if self.lies_on(m, u) {
-            self.start(u) as u64 + g.works()[u] as u64
-        } else {
-            0
-        }
+        u64::from(self.start(u)) + u64::from(g.work(u))
     }
 
     // The greatest finish of the tasks placed on machine m, or 0.
@@ -32,30 +32,20 @@ impl PartialSchedule {
         ensures is { result ≡ machine_finish (the_graph g.now) (the_partial self.now) m }
         ensures small { result ≤ 2 ^ 33 }
     {
-        let mut most = 0;
-        for u in 0..g.tasks() {
-            most = self.finish_on(g, m, u).max(most);
-        }
-        most
+        (0..g.tasks())
+            .filter(|u| self.lies_on(m, *u))
+            .map(|u| self.finish(g, u))
+            .max()
+            .unwrap_or(0)
     }
 
-    // When the data of transfer k is ready for task t on machine m, 0 where it leads elsewhere.
-    fn arrival(&self, g: &TaskGraph, t: usize, m: u8, k: usize) -> u64
-        requires { k < (the_graph g.now).count }
-        ensures is { result ≡ arrival (the_graph g.now) (the_partial self.now) t m k }
+    // When the data of transfer e arrives on machine m.
+    fn arrival(&self, g: &TaskGraph, m: u8, e: &Transfer) -> u64
+        ensures is { result ≡ transfer_arrival (the_graph g.now) (the_partial self.now) m e.now }
         ensures small { result ≤ 2 ^ 33 }
     {
-        let e = g.transfers()[k];
-        if e.to as usize != t {
-            return 0;
-        }
-        let u = e.from as usize;
-        let end = self.start(u) as u64 + g.works()[u] as u64;
-        if self.machine(u) == m {
-            end
-        } else {
-            end + e.cost as u64
-        }
+        let u = usize::from(e.from);
+        self.finish(g, u) + u64::from(e.delay(self.machine(u), m))
     }
 
     // The data ready time of task t on machine m.
@@ -63,11 +53,12 @@ impl PartialSchedule {
         ensures is { result ≡ data_ready (the_graph g.now) (the_partial self.now) t m }
         ensures small { result ≤ 2 ^ 33 }
     {
-        let mut most = 0;
-        for k in 0..g.transfers().len() {
-            most = self.arrival(g, t, m, k).max(most);
-        }
-        most
+        g.transfers()
+            .iter()
+            .filter(|e| usize::from(e.to) == t)
+            .map(|e| self.arrival(g, m, e))
+            .max()
+            .unwrap_or(0)
     }
 
     // Where task t would start on machine m.
@@ -78,34 +69,24 @@ impl PartialSchedule {
         self.data_ready(g, t, m).max(self.machine_finish(g, m))
     }
 
-    // Whether transfer k leads elsewhere than to task t, or from a placed task.
-    fn is_fed(&self, g: &TaskGraph, t: usize, k: usize) -> bool
-        requires { k < (the_graph g.now).count }
-        ensures { result ≡ fed (the_graph g.now) (the_partial self.now) t k }
+    // Whether transfer e leads elsewhere than to task t, or from a placed task.
+    fn is_fed(&self, t: usize, e: &Transfer) -> bool
+        ensures { result ≡ transfer_fed (the_partial self.now) t e.now }
     {
-        let e = g.transfers()[k];
-        e.to as usize != t || self.is_placed(e.from as usize)
+        usize::from(e.to) != t || self.is_placed(usize::from(e.from))
     }
 
     // Whether task t is not placed and all its predecessors are.
     fn is_ready(&self, g: &TaskGraph, t: usize) -> bool
         ensures { result ≡ is_ready (the_graph g.now) (the_partial self.now) t }
     {
-        if self.is_placed(t) {
-            return false;
-        }
-        for k in 0..g.transfers().len() {
-            if !self.is_fed(g, t, k) {
-                return false;
-            }
-        }
-        true
+        !self.is_placed(t) && g.transfers().iter().all(|e| self.is_fed(t, e))
     }
 
     // Whether task t is a free task of the graph.
     pub fn is_free(&self, g: &TaskGraph, t: usize) -> bool
         ensures is { result ≡ is_free (the_graph g.now) (the_partial self.now) t }
-        ensures law { Decides result (Free (the_graph g.now) (the_partial self.now) t) }
+        ensures law { IsTrue result ↔ Free (the_graph g.now) (the_partial self.now) t }
     {
         t < g.tasks() && self.is_ready(g, t)
     }
