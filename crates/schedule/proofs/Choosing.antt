@@ -1,4 +1,9 @@
-use Rattle.std.proofs.Common.{◌≡◌, ℕ, zero, suc, ◌+◌, ◌<◌, ◌≤◌, max, Bool, true, false, cond, ◌&&◌, ◌||◌, eqb, ltb, ◌⊎◌, get_or, sym, refl, ap, ◌∙◌, subst, inl, inr, add-one, arith}
+use Rattle.std.proofs.Common.{◌≡◌, ℕ, zero, suc, ◌+◌, ◌<◌, ◌≤◌, max, Bool, true, false, cond, ◌&&◌, ◌||◌, eqb, ltb, ◌⊎◌, get_or, Some, None, Option, Ordering, sym, refl, ap, ◌∙◌, subst, inl, inr, add-one, arith}
+use Rattle.std.specs.List.{fold, reduce, filter, range_with_len}
+use Rattle.std.specs.Option.{IsSomeAnd, unwrap_or}
+use Rattle.std.specs.declared.cmp.Reverse.{Reverse}
+use Rattle.std.specs.Ordering.{min_by_ordering, nat_cmp}
+use Rattle.std.specs.declared.cmp.Ordering.TheVariants.{Less, Equal, Greater}
 use native.Mathlib.Decide.{ℕ_discrete, dec_lt}
 use Rattle.std.proofs.lemmas.Bool.{eq-eqb, ne_eqb, lt-ltb, le-ltb}
 use Rattle.model.specs.Graph.{Graph, level}
@@ -10,7 +15,8 @@ use Rattle.model.proofs.Starts.{some-free}
 use Rattle.loader.specs.declared.graph.TaskGraph.{TaskGraph}
 use Rattle.loader.specs.Meaning.{the_graph, levels_of}
 use Rattle.loader.proofs.Laws.{levels-are}
-use Rattle.schedule.specs.ListSchedule.{next_task, earliest, Next, Earliest}
+use Rattle.schedule.specs.ListSchedule.{next_task, next_free, earliest, Next, Earliest}
+use Rattle.schedule.proofs.Picking.{pick, nat-picks, fold-below, best-if, best, reduce-filtered}
 
 -- what a pick so far is: none, and no task below n is free, or the best of them
 abbrev PickedTask : Graph → Partial → ℕ → ℕ → Type 0
@@ -93,13 +99,25 @@ picked-machine g s t (suc n) = go (earliest g s t n) (picked-machine g s t n)
 pub earliest-is : (g : Graph) (s : Partial) (t : ℕ) → 0 < g.machines → Earliest g s t (earliest g s t g.machines)
 earliest-is g s t h = let x = picked-machine g s t g.machines in record { low = omega (arith, x.0); least = x.1; lowest = x.2 }
 
-pub earliest-more : (g : Graph) (s : Partial) (t m : ℕ) → earliest g s t (m + 1) ≡ cond (ltb (start_on g s t m) (start_on g s t (earliest g s t m))) m (earliest g s t m)
-unfolding earliest
-earliest-more g s t m = ap (earliest g s t) (add-one m)
+pick-same : (o : Ordering) (b : ℕ) → b ≡ min_by_ordering o b b
+pick-same Less b = refl
+pick-same Equal b = refl
+pick-same Greater b = refl
 
-pub earliest-none : (g : Graph) (s : Partial) (t : ℕ) → earliest g s t 0 ≡ 0
+-- what a search over the machines finds
+earliest-folded : (g : Graph) (s : Partial) (t n : ℕ) → fold (pick nat_cmp (start_on g s t)) 0 (range_with_len 0 n) ≡ earliest g s t n
 unfolding earliest
-earliest-none g s t = refl
+earliest-folded g s t zero = refl
+earliest-folded g s t (suc n) =
+    fold-below (pick nat_cmp (start_on g s t)) 0 n
+    ∙ ap (λ b. pick nat_cmp (start_on g s t) b n) (earliest-folded g s t n)
+    ∙ nat-picks (start_on g s t (earliest g s t n)) (start_on g s t n) (earliest g s t n) n
+
+pub earliest-found : (g : Graph) (s : Partial) (t n : ℕ) → 0 < n → unwrap_or (reduce (pick nat_cmp (start_on g s t)) (range_with_len 0 n)) 0 ≡ earliest g s t n
+earliest-found g s t zero h = absurd (omega arith)
+earliest-found g s t (suc n) h =
+    ap (λ b. fold (pick nat_cmp (start_on g s t)) b (range_with_len 1 n)) (pick-same (nat_cmp (start_on g s t 0) (start_on g s t 0)) 0)
+    ∙ earliest-folded g s t (suc n)
 
 pub next-none : (g : Graph) (s : Partial) → next_task g s 0 ≡ g.tasks
 unfolding next_task
@@ -116,3 +134,53 @@ next_more g s t h = ap (next_task (the_graph g) s) (add-one t) ∙ go (next_task
       | yes e ↦ rw (eq-eqb b g.tasks e)
       | no ne ↦ let z = levels-are g t h in let y = levels-are g b (omega arith) in rw (z, y)
     ]
+
+-- what a search over the tasks finds, by the levels kept in the graph
+module _ (g : TaskGraph) (s : Partial) where
+  -- task b, where it is one
+  abbrev among : ℕ → Option ℕ
+  among b = cond (ltb b g.tasks) (Some b) None
+
+  abbrev higher : ℕ → ℕ → ℕ
+  higher b t = cond (ltb (get_or (levels_of g) b 0) (get_or (levels_of g) t 0)) t b
+
+  next-folded : (n : ℕ) → n ≤ g.tasks → fold (best (is_free (the_graph g) s) higher) None (range_with_len 0 n) ≡ among (next_task (the_graph g) s n)
+  unfolding next_task
+  next-folded zero h = rw (le-ltb g.tasks g.tasks (omega arith)) refl
+  next-folded (suc n) h =
+      fold-below (best (is_free (the_graph g) s) higher) None n
+      ∙ ap (λ o. best (is_free (the_graph g) s) higher o n) (next-folded n (omega arith))
+      ∙ go (is_free (the_graph g) s n) (next_task (the_graph g) s n) (next_le (the_graph g) s n (omega arith))
+    where
+      one : (x : ℕ) → x < g.tasks → Some x ≡ among x
+      one x l = rw (lt-ltb x g.tasks l) refl
+
+      either : (r : Bool) (b : ℕ) → b < g.tasks → Some (cond r n b) ≡ among (cond r n b)
+      either true b l = one n (omega arith)
+      either false b l = one b l
+
+      go : (r : Bool) (b : ℕ) → b ≤ g.tasks
+          → best-if r higher (among b) n ≡ among (cond (r && (eqb b g.tasks || ltb (level (the_graph g) b) (level (the_graph g) n))) n b)
+      go r b l = elim (dec_lt b g.tasks) [
+        | yes k ↦ rw (sym (one b k), ne_eqb b g.tasks (omega arith)) (two r b k)
+        | no k ↦ rw (le-ltb b g.tasks (omega arith), eq-eqb b g.tasks (omega arith)) (none r (le-ltb b g.tasks (omega arith)))
+      ]
+        where
+          two : (r : Bool) (b : ℕ) → b < g.tasks → cond r (Some (higher b n)) (Some b) ≡ among (cond (r && ltb (level (the_graph g) b) (level (the_graph g) n)) n b)
+          two true b k =
+              let z = levels-are g n (omega arith) in
+              let y = levels-are g b k in
+              rw (z, y) (either (ltb (level (the_graph g) b) (level (the_graph g) n)) b k)
+          two false b k = one b k
+
+          none : (r : Bool) → ltb b g.tasks ≡ false → cond r (Some n) None ≡ among (cond (r && true) n b)
+          none true e = one n (omega arith)
+          none false e = rw e refl
+
+  pub next-found : reduce (pick (λ (x : Reverse ℕ) (y : Reverse ℕ). nat_cmp y.0 x.0) (λ t. record { 0 = get_or (levels_of g) t 0 })) (filter (is_free (the_graph g) s) (range_with_len 0 g.tasks)) ≡ next_free (the_graph g) s
+  next-found =
+      (λ i. reduce (λ b t. nat-picks (get_or (levels_of g) t 0) (get_or (levels_of g) b 0) b t i) (filter (is_free (the_graph g) s) (range_with_len 0 g.tasks)))
+      ∙ reduce-filtered (is_free (the_graph g) s) higher (range_with_len 0 g.tasks) ∙ next-folded g.tasks (omega arith)
+
+pub next-law : (g : Graph) → Dag g → (s : Partial) → Unfinished g s → IsSomeAnd (next_free g s) (Next g s)
+next-law g S s x = let N = next-is g S s x in rw (lt-ltb (next_task g s g.tasks) g.tasks N.free.0) N

@@ -1,17 +1,25 @@
-use Rattle.std.proofs.Common.{◌≡◌, ℕ, ◌+◌, ◌<◌, ◌≤◌, true, not, eqb, ltb, List, length, Ok, Err, sym, refl, ap, ◌∙◌, subst, inl, inr, arith}
-use native.Mathlib.Decide.{dec_le, dec_lt}
+use Rattle.std.proofs.Common.{◌≡◌, ℕ, ◌+◌, ◌<◌, Bool, true, not, eqb, ltb, List, length, Some, None, Option, sym, refl, ap, subst, inl, inr, arith}
+use native.Mathlib.Decide.{ℕ_discrete, dec_le, dec_lt}
+use Rattle.std.specs.Option.{MatchOption}
 use Rattle.std.proofs.lemmas.Bool.{eq-eqb, ne_eqb, eqb-true, eqb-false, lt-ltb, le-ltb, ltb-true, le-leb, lt-leb, and_parts, and_from, and_left, and_right, not-true, not_from_false}
+use Rattle.model.specs.Range.{first, lowest}
 use Rattle.model.specs.Graph.{Graph, Ends}
 use Rattle.model.specs.Schedule.{Schedule, Feasible, delay, makespan}
 use borrow.Author.Clash.{clash}
 use Rattle.model.proofs.Range.{any-on, any-has, first-is}
 use Rattle.partial.specs.declared.placement.Placement.{Placement}
-use Rattle.schedule.specs.declared.fault.CheckFault.TheVariants as Fault
-use Rattle.schedule.specs.declared.rule.Rule.{Rule}
-use Rattle.schedule.specs.declared.rule.Rule.TheVariants.{Range, Early, Overlap}
 use Rattle.schedule.specs.Rows.{schedule_of}
-use Rattle.schedule.specs.Check.{wrong, hasty, early, collide, overlaps, breaks, lowest, verdict, checked}
-use Rattle.schedule.specs.Judged.{Lowest, Nowhere, OutOfRange, TooEarly, Overlapping, Breaks}
+use Rattle.schedule.specs.Check.{wrong, hasty, early, collide, overlaps, wrong_row, early_task, overlapping_task, verdict, judged, checked}
+use Rattle.schedule.specs.Judged.{Lowest, Nowhere, OutOfRange, TooEarly, Overlapping, Judged}
+
+-- the lowest number that passes a test which decides P
+lowest-is : (n : ℕ) (f : ℕ → Bool) (P : ℕ → Type 0) → ((t : ℕ) → f t ≡ true → P t) → ((t : ℕ) → P t → f t ≡ true) → MatchOption (lowest n f) (Nowhere n P) (Lowest n P)
+lowest-is n f P to from =
+    let x = first-is n f in
+    elim (dec_lt (first n f) n) [
+      | yes l ↦ rw (lt-ltb (first n f) n l) (l, to (first n f) (x.2 l), λ u h b. clash (f u) (from u b) (x.1 u h))
+      | no l ↦ rw (le-ltb (first n f) n (omega arith)) (λ t h b. clash (f t) (from t b) (x.1 t (omega arith)))
+    ]
 
 module _ (g : Graph) (p : Schedule) where
   wrong-is : (t : ℕ) → wrong g p t ≡ true → OutOfRange g p t
@@ -54,36 +62,28 @@ module _ (g : Graph) (p : Schedule) where
   is-overlap t x = any-on g.tasks x.0 (collide g p t) x.1
       (and_from _ _ (not_from_false _ (ne_eqb x.0 t x.2)) (and_from _ _ (eq-eqb _ _ x.3) (and_from _ _ (lt-ltb _ _ x.4) (lt-ltb _ _ x.5))))
 
-  -- the test of each rule decides it
-  breaks-is : (rule : Rule) (t : ℕ) → breaks g p rule t ≡ true → Breaks g p rule t
-  breaks-is Range t e = wrong-is t e
-  breaks-is Early t e = early-is t e
-  breaks-is Overlap t e = overlap-is t e
+  rows-right : MatchOption (wrong_row g p) (Nowhere g.tasks (OutOfRange g p)) (Lowest g.tasks (OutOfRange g p))
+  rows-right = lowest-is g.tasks (wrong g p) (OutOfRange g p) wrong-is is-wrong
 
-  is-breaks : (rule : Rule) (t : ℕ) → Breaks g p rule t → breaks g p rule t ≡ true
-  is-breaks Range t x = is-wrong t x
-  is-breaks Early t x = is-early t x
-  is-breaks Overlap t x = is-overlap t x
+  starts-right : MatchOption (early_task g p) (Nowhere g.tasks (TooEarly g p)) (Lowest g.tasks (TooEarly g p))
+  starts-right = lowest-is g.tasks (early g p) (TooEarly g p) early-is is-early
 
-  pub lowest-is : (rule : Rule) (t : ℕ) → t ≡ lowest g p rule → t < g.tasks → Lowest g.tasks (Breaks g p rule) t
-  lowest-is rule t e h =
-      let x = first-is g.tasks (breaks g p rule) in
-      (h, breaks-is rule t (ap (breaks g p rule) e ∙ x.2 (omega arith)), λ u l b. clash (breaks g p rule u) (is-breaks rule u b) (x.1 u (omega arith)))
-
-  pub nowhere : (rule : Rule) (t : ℕ) → t ≡ lowest g p rule → g.tasks ≤ t → Nowhere g.tasks (Breaks g p rule)
-  nowhere rule t e h u l b =
-      let x = first-is g.tasks (breaks g p rule) in
-      clash (breaks g p rule u) (is-breaks rule u b) (x.1 u (omega arith))
+  runs-right : MatchOption (overlapping_task g p) (Nowhere g.tasks (Overlapping g p)) (Lowest g.tasks (Overlapping g p))
+  runs-right = lowest-is g.tasks (overlaps g p) (Overlapping g p) overlap-is is-overlap
 
   -- a feasible schedule breaks no rule
-  pub no-breach : Feasible g p → (rule : Rule) (t : ℕ) → t < g.tasks → Breaks g p rule t → ⊥
-  no-breach F Range t h (inl a) = omega (arith, F.on t h)
-  no-breach F Range t h (inr a) = omega (arith, F.starts t h)
-  no-breach F Early t h x = omega (arith, subst (Late x.0) (sym x.2) x.3, F.after x.0 x.1)
-  no-breach F Overlap t h x = elim (F.apart x.0 t x.1 h x.2 x.3) [ inl a ↦ omega (arith, x.4) | inr b ↦ omega (arith, x.5) ]
+  in-range : Feasible g p → (t : ℕ) → t < g.tasks → OutOfRange g p t → ⊥
+  in-range F t h (inl a) = omega (arith, F.on t h)
+  in-range F t h (inr a) = omega (arith, F.starts t h)
+
+  in-time : Feasible g p → (t : ℕ) → TooEarly g p t → ⊥
+  in-time F t x = omega (arith, subst (Late x.0) (sym x.2) x.3, F.after x.0 x.1)
+
+  alone : Feasible g p → (t : ℕ) → t < g.tasks → Overlapping g p t → ⊥
+  alone F t h x = elim (F.apart x.0 t x.1 h x.2 x.3) [ inl a ↦ omega (arith, x.4) | inr b ↦ omega (arith, x.5) ]
 
   -- and what breaks none is feasible
-  pub obeys-all : Ends g → Nowhere g.tasks (Breaks g p Range) → Nowhere g.tasks (Breaks g p Early) → Nowhere g.tasks (Breaks g p Overlap) → Feasible g p
+  obeys-all : Ends g → Nowhere g.tasks (OutOfRange g p) → Nowhere g.tasks (TooEarly g p) → Nowhere g.tasks (Overlapping g p) → Feasible g p
   obeys-all E A B C = record {
     on = λ t h. elim (dec_lt (p.machine t) g.machines) [ yes l ↦ l | no l ↦ absurd (A t h (inl (omega arith))) ];
     starts = λ t h. elim (dec_le (p.start t) 64000) [ yes l ↦ l | no l ↦ absurd (A t h (inr (omega arith))) ];
@@ -100,18 +100,26 @@ module _ (g : Graph) (p : Schedule) where
     ];
   }
 
-module _ (g : Graph) (rows : List Placement) (e : length rows ≡ g.tasks) where
-  counted : checked g rows ≡ verdict g (lowest g (schedule_of rows) Range) (lowest g (schedule_of rows) Early) (lowest g (schedule_of rows) Overlap) (makespan g (schedule_of rows))
-  counted = rw (eq-eqb (length rows) g.tasks e)
+-- the check is right about any rows
+module _ (g : Graph) (E : Ends g) (rows : List Placement) where
+  right : length rows ≡ g.tasks → Judged g rows (judged g (schedule_of rows))
+  right e = go (wrong_row g p) (early_task g p) (overlapping_task g p) (rows-right g p) (starts-right g p) (runs-right g p)
+    where
+      p : Schedule
+      p = schedule_of rows
 
-  pub says-rows : (a : ℕ) → a ≡ lowest g (schedule_of rows) Range → a < g.tasks → Err (Fault.Rows a) ≡ checked g rows
-  says-rows a q h = sym (counted ∙ rw (← q, lt-ltb a g.tasks h))
+      go : (a b c : Option ℕ)
+          → MatchOption a (Nowhere g.tasks (OutOfRange g p)) (Lowest g.tasks (OutOfRange g p))
+          → MatchOption b (Nowhere g.tasks (TooEarly g p)) (Lowest g.tasks (TooEarly g p))
+          → MatchOption c (Nowhere g.tasks (Overlapping g p)) (Lowest g.tasks (Overlapping g p))
+          → Judged g rows (verdict a b c (makespan g p))
+      go (Some t) b c x y z = ((λ F. in-range g p F.1 t x.0 x.1), inr (e, x))
+      go None (Some t) c x y z = ((λ F. in-time g p F.1 t y.1), (e, x, y))
+      go None None (Some t) x y z = ((λ F. alone g p F.1 t z.0 z.1), (e, x, y, z))
+      go None None None x y z = ((e, obeys-all g p E x y z), refl)
 
-  pub says-early : (a b : ℕ) → a ≡ lowest g (schedule_of rows) Range → g.tasks ≤ a → b ≡ lowest g (schedule_of rows) Early → b < g.tasks → Err (Fault.Early b) ≡ checked g rows
-  says-early a b qa ha q h = sym (counted ∙ rw (← qa, ← q, le-ltb a g.tasks ha, lt-ltb b g.tasks h))
-
-  pub says-overlap : (a b c : ℕ) → a ≡ lowest g (schedule_of rows) Range → g.tasks ≤ a → b ≡ lowest g (schedule_of rows) Early → g.tasks ≤ b → c ≡ lowest g (schedule_of rows) Overlap → c < g.tasks → Err (Fault.Overlap c) ≡ checked g rows
-  says-overlap a b c qa ha qb hb q h = sym (counted ∙ rw (← qa, ← qb, ← q, le-ltb a g.tasks ha, le-ltb b g.tasks hb, lt-ltb c g.tasks h))
-
-  pub says-ok : (a b c v : ℕ) → a ≡ lowest g (schedule_of rows) Range → g.tasks ≤ a → b ≡ lowest g (schedule_of rows) Early → g.tasks ≤ b → c ≡ lowest g (schedule_of rows) Overlap → g.tasks ≤ c → v ≡ makespan g (schedule_of rows) → Ok v ≡ checked g rows
-  says-ok a b c v qa ha qb hb q h d = sym (counted ∙ rw (← qa, ← qb, ← q, le-ltb a g.tasks ha, le-ltb b g.tasks hb, le-ltb c g.tasks h) (ap Ok (sym d)))
+  pub check-right : Judged g rows (checked g rows)
+  check-right = elim (ℕ_discrete (length rows) g.tasks) [
+    | yes e ↦ rw (eq-eqb (length rows) g.tasks e) (right e)
+    | no ne ↦ rw (ne_eqb (length rows) g.tasks ne) ((λ F. ne F.0), inl (ne, refl))
+  ]

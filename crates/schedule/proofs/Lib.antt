@@ -2,5 +2,6 @@ pub mod Judging
 pub mod Choosing
 pub mod Listing
 pub mod Passing
+mod Picking
 mod Turns
 mod Releasing

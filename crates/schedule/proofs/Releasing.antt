@@ -161,6 +161,6 @@ unfolding normal_form append
 child-placed g s c t m e u h = ap (λ (q : Partial). q.placed u) e
 
 -- the first of those that wait is taken out and placed, and those that it releases wait: again the free tasks wait
-pub waits-again : (g : Graph) → Lawful g → (s q : Partial) (c : List ReadyTask) (x : ReadyTask)
-    → Turn g s x c → q ≡ extend g s x.task → released g q x.task g.count c ≡ free_tasks g q
-waits-again g L s q c x turn e = ap (released g q x.task g.count) turn.others ∙ releases-all g L s q x.task turn.free (child-placed g s q x.task (earliest g s x.task g.machines) e)
+pub waits-again : (g : Graph) → Lawful g → (s q : Partial) (c : List ReadyTask) (t : ℕ)
+    → Turn g s t c → q ≡ extend g s t → released g q t g.count c ≡ free_tasks g q
+waits-again g L s q c t turn e = ap (released g q t g.count) turn.others ∙ releases-all g L s q t turn.free (child-placed g s q t (earliest g s t g.machines) e)

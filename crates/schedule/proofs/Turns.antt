@@ -1,12 +1,13 @@
-use Rattle.std.proofs.Common.{◌≡◌, ℕ, zero, suc, ◌+◌, ◌<◌, ◌≤◌, Bool, true, false, cond, ◌&&◌, eqb, List, [], ◌∷◌, length, Some, None, sym, refl, ap, ◌∙◌, subst, inl, inr, add-one, arith}
+use Rattle.std.proofs.Common.{◌≡◌, ℕ, zero, suc, ◌+◌, ◌<◌, ◌≤◌, Bool, true, false, cond, ◌&&◌, eqb, List, [], ◌∷◌, length, Some, Option, sym, refl, ap, ◌∙◌, subst, inl, inr, add-one, arith}
 use native.Mathlib.Decide.{ℕ_discrete}
 use Rattle.std.specs.List.{AllByRecursion}
+use Rattle.std.specs.Option.{option_map}
 use Rattle.std.proofs.ByRecursion.{all_shuffled}
 use Rattle.heap.specs.Bag.{insert, first, rest}
 use Rattle.heap.proofs.Bags.{length-insert, insert-adds, insert_comm, front}
 use Rattle.heap.proofs.Pairs.{from-at-most}
 use Rattle.model.specs.Range.{put}
-use Rattle.model.specs.Graph.{Graph, Lawful, level}
+use Rattle.model.specs.Graph.{Graph, level}
 use Rattle.model.specs.Partial.{Partial, Unfinished, Free, is_free}
 use borrow.Author.Clash.{clash}
 use Rattle.model.proofs.Range.{put_same, put_other}
@@ -15,6 +16,11 @@ use Rattle.model.proofs.Starts.{lawful-dag}
 use Rattle.queue.specs.declared.ready.ReadyTask.{ReadyTask}
 use Rattle.queue.specs.ReadyTasks.{ready_before}
 use Rattle.queue.specs.ReadyOrder.{tasks-ordered}
+use Rattle.loader.specs.Meaning.{the_graph}
+use Rattle.loader.proofs.Laws.{the_lawful}
+use Rattle.partial.specs.Meaning.{the_partial}
+use Rattle.queue.specs.ReadyBags.{ready_bag}
+use Rattle.schedule.specs.declared.list.Listing.{Listing}
 use Rattle.schedule.specs.ListSchedule.{next_task, Next}
 use Rattle.schedule.specs.Waiting.{ready_task, tasks_where, free_tasks, released}
 use Rattle.schedule.proofs.Choosing.{next-is}
@@ -92,28 +98,40 @@ module _ (g : Graph) where
             ])
       ]
 
--- task x was taken out, which leaves c
-pub record Turn (g : Graph) (s : Partial) (x : ReadyTask) (c : List ReadyTask) : Type 0 where
-  pub next : x.task ≡ next_task g s g.tasks
-  pub free : Free g s x.task
-  pub others : c ≡ tasks_where g (put (is_free g s) x.task false) g.tasks
+-- the number of the task that waits in front, if one waits
+abbrev pub front_task : List ReadyTask → Option ℕ
+front_task b = option_map (λ x. x.task) (first b)
 
-module _ (g : Graph) (L : Lawful g) where
+-- task t was taken out, which leaves c
+pub record Turn (g : Graph) (s : Partial) (t : ℕ) (c : List ReadyTask) : Type 0 where
+  pub next : t ≡ next_task g s g.tasks
+  pub free : Free g s t
+  pub others : c ≡ tasks_where g (put (is_free g s) t false) g.tasks
+
+module _ (l : Listing) (U : Unfinished (the_graph l.graph.now) (the_partial l.placed)) where
+  abbrev g : Graph
+  g = the_graph l.graph.now
+
+  abbrev s : Partial
+  s = the_partial l.placed
+
+  N : Next g s (next_task g s g.tasks)
+  N = next-is g (lawful-dag (the_lawful l.graph.now)) s U
+
   -- so some task waits
-  pub some-waits : (s : Partial) (b : List ReadyTask) → Unfinished g s → b ≡ free_tasks g s → None ≡ first b → ⊥
-  some-waits s b U is e =
-      let z : None ≡ Some (ready_task g (next_task g s g.tasks)) = e ∙ ap first (is ∙ next-first g s (next_task g s g.tasks) (next-is g (lawful-dag L) s U)) in
-      let w : ◌≡◌ {A = ℕ} 0 1 = cc in omega arith
+  pub some-waits : front_task (ready_bag l.waiting.heap) ≡ Some (next_task g s g.tasks)
+  some-waits = ap front_task (l.free ∙ next-first g s (next_task g s g.tasks) N)
 
   -- and it is the one that is taken
-  pub taken : (s : Partial) (b c : List ReadyTask) (x : ReadyTask) → Unfinished g s → b ≡ free_tasks g s → Some x ≡ first b → c ≡ rest b → Turn g s x c
-  taken s b c x U is e left =
-      let N = next-is g (lawful-dag L) s U in
-      let front = is ∙ next-first g s (next_task g s g.tasks) N in
-      let z : Some x ≡ Some (ready_task g (next_task g s g.tasks)) = e ∙ ap first front in
-      let y : x ≡ ready_task g (next_task g s g.tasks) = cc in
-      let q : x.task ≡ next_task g s g.tasks = ap (λ (k : ReadyTask). k.task) y in
-      record { next = q; free = subst (Free g s) (sym q) N.free; others = left ∙ ap rest front ∙ ap (λ (u : ℕ). tasks_where g (put (is_free g s) u false) g.tasks) (sym q) }
+  pub taken : (t : ℕ) (c : List ReadyTask) → Some t ≡ front_task (ready_bag l.waiting.heap) → c ≡ rest (ready_bag l.waiting.heap) → Turn g s t c
+  taken t c e left =
+      let z : Some t ≡ Some (next_task g s g.tasks) = e ∙ some-waits in
+      let q : t ≡ next_task g s g.tasks = cc in
+      record {
+        next = q;
+        free = subst (Free g s) (sym q) N.free;
+        others = left ∙ ap rest (l.free ∙ next-first g s (next_task g s g.tasks) N) ∙ ap (λ (u : ℕ). tasks_where g (put (is_free g s) u false) g.tasks) (sym q);
+      }
 
 module _ (g : Graph) where
   -- what a placed task releases

@@ -4,8 +4,6 @@ use Rattle.model.specs.Schedule.{Schedule, Feasible, delay, makespan}
 use Rattle.partial.specs.declared.placement.Placement.{Placement}
 use Rattle.schedule.specs.declared.fault.CheckFault.{CheckFault}
 use Rattle.schedule.specs.declared.fault.CheckFault.TheVariants as Fault
-use Rattle.schedule.specs.declared.rule.Rule.{Rule}
-use Rattle.schedule.specs.declared.rule.Rule.TheVariants.{Range, Early, Overlap}
 use Rattle.schedule.specs.Rows.{schedule_of}
 
 -- one row for each task, and they are a feasible schedule
@@ -26,23 +24,31 @@ OutOfRange g p t = (g.machines ≤ p.machine t) ⊎ (64000 < p.start t)
 
 -- task t starts before the data of some transfer arrives
 abbrev pub TooEarly : Graph → Schedule → ℕ → Type 0
-TooEarly g p t = (k : ℕ) × (k < g.count) × (g.to k ≡ t) × (p.start t < p.start (g.from k) + g.work (g.from k) + delay g k (p.machine (g.from k)) (p.machine t))
+TooEarly g p t =
+    (k : ℕ) × (k < g.count) × (g.to k ≡ t)
+    × (p.start t
+    < p.start (g.from k) + g.work (g.from k) + delay g k (p.machine (g.from k)) (p.machine t))
 
 -- task t runs while another task runs on its machine
 abbrev pub Overlapping : Graph → Schedule → ℕ → Type 0
-Overlapping g p t = (u : ℕ) × (u < g.tasks) × (u ≢ t) × (p.machine u ≡ p.machine t) × (p.start t < p.start u + g.work u) × (p.start u < p.start t + g.work t)
-
--- task t breaks the rule
-abbrev pub Breaks : Graph → Schedule → Rule → ℕ → Type 0
-Breaks g p Range t = OutOfRange g p t
-Breaks g p Early t = TooEarly g p t
-Breaks g p Overlap t = Overlapping g p t
+Overlapping g p t =
+    (u : ℕ) × (u < g.tasks) × (u ≢ t) × (p.machine u ≡ p.machine t)
+    × (p.start t < p.start u + g.work u) × (p.start u < p.start t + g.work t)
 
 -- what a refusal says: the first rule that is broken, and the lowest task that breaks it
 abbrev pub Refuses : Graph → List Placement → CheckFault → Type 0
-Refuses g rows (Fault.Rows i) = ((length rows ≢ g.tasks) × (i ≡ g.tasks)) ⊎ ((length rows ≡ g.tasks) × Lowest g.tasks (Breaks g (schedule_of rows) Range) i)
-Refuses g rows (Fault.Early t) = (length rows ≡ g.tasks) × Nowhere g.tasks (Breaks g (schedule_of rows) Range) × Lowest g.tasks (Breaks g (schedule_of rows) Early) t
-Refuses g rows (Fault.Overlap t) = (length rows ≡ g.tasks) × Nowhere g.tasks (Breaks g (schedule_of rows) Range) × Nowhere g.tasks (Breaks g (schedule_of rows) Early) × Lowest g.tasks (Breaks g (schedule_of rows) Overlap) t
+Refuses g rows (Fault.Rows i) =
+    ((length rows ≢ g.tasks) × (i ≡ g.tasks))
+    ⊎ ((length rows ≡ g.tasks) × Lowest g.tasks (OutOfRange g (schedule_of rows)) i)
+Refuses g rows (Fault.Early t) =
+    (length rows ≡ g.tasks)
+    × Nowhere g.tasks (OutOfRange g (schedule_of rows))
+    × Lowest g.tasks (TooEarly g (schedule_of rows)) t
+Refuses g rows (Fault.Overlap t) =
+    (length rows ≡ g.tasks)
+    × Nowhere g.tasks (OutOfRange g (schedule_of rows))
+    × Nowhere g.tasks (TooEarly g (schedule_of rows))
+    × Lowest g.tasks (Overlapping g (schedule_of rows)) t
 
 -- the check passes exactly the feasible schedules and answers their makespan
 abbrev pub Judged : Graph → List Placement → Result ℕ CheckFault → Type 0

@@ -1,4 +1,5 @@
 pub mod Rows
+pub mod TaskRows
 pub mod Check
 pub mod Judged
 pub mod ListSchedule

@@ -1,118 +1,141 @@
-ghost use Rattle.std.specs.Prelude.{◌≡◌, ◌+◌, ◌<◌, true, false, ◌&&◌, length};
-ghost use Rattle.model.specs.Schedule.{makespan};
+ghost use Rattle.std.specs.Prelude.{◌≡◌};
 ghost use Rattle.loader.specs.Meaning.{the_graph};
-ghost use Rattle.schedule.specs.Rows.{schedule_of};
-ghost use Rattle.schedule.specs.Check.{wrong, hasty, early, collide, overlaps, breaks, lowest, checked};
+ghost use Rattle.schedule.specs.Check.{checked};
 ghost use Rattle.schedule.specs.Judged.{Judged};
 
 use crate::fault::CheckFault;
-use crate::rule::Rule;
 use loader::graph::TaskGraph;
+use loader::transfer::Transfer;
 use partial::placement::Placement;
 
-// Whether row t is out of range.
-fn is_wrong(g: &TaskGraph, rows: &[Placement], t: usize) -> bool
-    requires { t < length rows.now }
-    ensures { result ≡ wrong (the_graph g.now) (schedule_of rows.now) t }
-{
-    !((rows[t].machine as usize) < g.machines() && rows[t].start <= 64000)
+// What stands past the last row.
+const BLANK: Placement = Placement {
+    machine: 0,
+    start: 0,
+};
+
+// Rows for the tasks of a graph.
+#[derive(Clone, Copy)]
+struct TaskRows<'a> {
+    graph: &'a TaskGraph,
+    rows: &'a [Placement],
 }
 
-// Whether transfer k leads to task t, which starts before its data arrives.
-fn is_hasty(g: &TaskGraph, rows: &[Placement], t: usize, k: usize) -> bool
-    requires { (k < (the_graph g.now).count) × (length rows.now ≡ (the_graph g.now).tasks) }
-    ensures { result ≡ hasty (the_graph g.now) (schedule_of rows.now) t k }
-{
-    let e = g.transfers()[k];
-    if e.to as usize != t {
-        return false;
+impl TaskRows<'_> {
+    ghost use Rattle.std.specs.Prelude.{◌+◌, slice_index_or};
+    ghost use Rattle.model.specs.Schedule.{makespan};
+    ghost use Rattle.schedule.specs.Rows.{blank};
+    ghost use Rattle.schedule.specs.TaskRows.{rows_graph, rows_schedule};
+    ghost use Rattle.schedule.specs.Check.{wrong, transfer_hasty, early, collide, overlaps};
+    ghost use Rattle.schedule.specs.Check.{wrong_row, early_task, overlapping_task, judged};
+
+    // Row t, blank past the last one.
+    fn row(&self, t: usize) -> Placement
+        ensures { result ≡ slice_index_or self.now.rows.now t blank }
+    {
+        self.rows.get(t).copied().unwrap_or(BLANK)
     }
-    let from = rows[e.from as usize];
-    let to = rows[e.to as usize];
-    let end = from.start as u64 + g.works()[e.from as usize] as u64;
-    let arrival = if from.machine == to.machine {
-        end
-    } else {
-        end + e.cost as u64
-    };
-    (to.start as u64) < arrival
-}
 
-// Whether task t starts before some data arrives.
-fn is_early(g: &TaskGraph, rows: &[Placement], t: usize) -> bool
-    requires { length rows.now ≡ (the_graph g.now).tasks }
-    ensures { result ≡ early (the_graph g.now) (schedule_of rows.now) t }
-{
-    for k in 0..g.transfers().len() {
-        if is_hasty(g, rows, t, k) {
-            return true;
+    // When task t finishes; what the graph lacks has no work.
+    fn finish(&self, t: usize) -> u64
+        ensures { result ≡ (rows_schedule self.now).start t + (rows_graph self.now).work t }
+    {
+        u64::from(self.row(t).start) + u64::from(self.graph.work(t))
+    }
+
+    // Whether row t is out of range.
+    fn is_wrong(&self, t: usize) -> bool
+        ensures { result ≡ wrong (rows_graph self.now) (rows_schedule self.now) t }
+    {
+        let row = self.row(t);
+        usize::from(row.machine) >= self.graph.machines() || row.start > 64000
+    }
+
+    // Whether transfer e leads to task t, which starts before its data arrives.
+    fn is_hasty(&self, t: usize, e: &Transfer) -> bool
+        ensures { result ≡ transfer_hasty (rows_graph self.now) (rows_schedule self.now) t e.now }
+    {
+        let from = self.row(usize::from(e.from));
+        let to = self.row(usize::from(e.to));
+        let delay = e.delay(from.machine, to.machine);
+        let arrival = self.finish(usize::from(e.from)) + u64::from(delay);
+        usize::from(e.to) == t && u64::from(to.start) < arrival
+    }
+
+    // Whether task t starts before some data arrives.
+    fn is_early(&self, t: usize) -> bool
+        ensures { result ≡ early (rows_graph self.now) (rows_schedule self.now) t }
+    {
+        self.graph.transfers().iter().any(|e| self.is_hasty(t, e))
+    }
+
+    // Whether t and u are two tasks that run at once on one machine.
+    fn do_collide(&self, t: usize, u: usize) -> bool
+        ensures { result ≡ collide (rows_graph self.now) (rows_schedule self.now) t u }
+    {
+        let a = self.row(t);
+        let b = self.row(u);
+        u != t
+            && b.machine == a.machine
+            && u64::from(a.start) < self.finish(u)
+            && u64::from(b.start) < self.finish(t)
+    }
+
+    // Whether task t runs while another runs on its machine.
+    fn does_overlap(&self, t: usize) -> bool
+        ensures { result ≡ overlaps (rows_graph self.now) (rows_schedule self.now) t }
+    {
+        (0..self.graph.tasks()).any(|u| self.do_collide(t, u))
+    }
+
+    // Three searches, one for each rule: one over a closure would say each test's contract again, which is no plainer.
+
+    // The lowest row out of range.
+    fn wrong_row(&self) -> Option<usize>
+        ensures { result ≡ wrong_row (rows_graph self.now) (rows_schedule self.now) }
+    {
+        (0..self.graph.tasks()).find(|&t| self.is_wrong(t))
+    }
+
+    // The lowest task that starts before some data arrives.
+    fn early_task(&self) -> Option<usize>
+        ensures { result ≡ early_task (rows_graph self.now) (rows_schedule self.now) }
+    {
+        (0..self.graph.tasks()).find(|&t| self.is_early(t))
+    }
+
+    // The lowest task that runs while another runs on its machine.
+    fn overlapping_task(&self) -> Option<usize>
+        ensures { result ≡ overlapping_task (rows_graph self.now) (rows_schedule self.now) }
+    {
+        (0..self.graph.tasks()).find(|&t| self.does_overlap(t))
+    }
+
+    // The greatest finish.
+    fn greatest_finish(&self) -> u64
+        ensures { result ≡ makespan (rows_graph self.now) (rows_schedule self.now) }
+    {
+        (0..self.graph.tasks())
+            .map(|t| self.finish(t))
+            .max()
+            .unwrap_or(0)
+    }
+
+    // The makespan of the rows, or the first rule that is broken and the lowest task at fault.
+    fn judged(&self) -> Result<u64, CheckFault>
+        ensures { result ≡ judged (rows_graph self.now) (rows_schedule self.now) }
+    {
+        if let Some(t) = self.wrong_row() {
+            return Err(CheckFault::Rows(t));
         }
-    }
-    false
-}
-
-// Whether t and u are two tasks that run at once on one machine.
-fn do_collide(g: &TaskGraph, rows: &[Placement], t: usize, u: usize) -> bool
-    requires { (length rows.now ≡ (the_graph g.now).tasks) × ((t < (the_graph g.now).tasks) × (u < (the_graph g.now).tasks)) }
-    ensures { result ≡ collide (the_graph g.now) (schedule_of rows.now) t u }
-{
-    let a = rows[t];
-    let b = rows[u];
-    let works = g.works();
-    u != t
-        && b.machine == a.machine
-        && (a.start as u64) < b.start as u64 + works[u] as u64
-        && (b.start as u64) < a.start as u64 + works[t] as u64
-}
-
-// Whether task t runs while another runs on its machine.
-fn does_overlap(g: &TaskGraph, rows: &[Placement], t: usize) -> bool
-    requires { (length rows.now ≡ (the_graph g.now).tasks) × (t < (the_graph g.now).tasks) }
-    ensures { result ≡ overlaps (the_graph g.now) (schedule_of rows.now) t }
-{
-    for u in 0..g.tasks() {
-        if do_collide(g, rows, t, u) {
-            return true;
+        if let Some(t) = self.early_task() {
+            return Err(CheckFault::Early(t));
         }
-    }
-    false
-}
-
-// Whether task t breaks the rule.
-fn breaks(g: &TaskGraph, rows: &[Placement], rule: Rule, t: usize) -> bool
-    requires { (length rows.now ≡ (the_graph g.now).tasks) × (t < (the_graph g.now).tasks) }
-    ensures { result ≡ breaks (the_graph g.now) (schedule_of rows.now) rule t }
-{
-    match rule {
-        Rule::Range => is_wrong(g, rows, t),
-        Rule::Early => is_early(g, rows, t),
-        Rule::Overlap => does_overlap(g, rows, t),
-    }
-}
-
-// The lowest task that breaks the rule, or the number of tasks.
-fn lowest(g: &TaskGraph, rows: &[Placement], rule: Rule) -> usize
-    requires { length rows.now ≡ (the_graph g.now).tasks }
-    ensures { result ≡ lowest (the_graph g.now) (schedule_of rows.now) rule }
-{
-    for t in 0..g.tasks() {
-        if breaks(g, rows, rule, t) {
-            return t;
+        if let Some(t) = self.overlapping_task() {
+            return Err(CheckFault::Overlap(t));
         }
+        Ok(self.greatest_finish())
     }
-    g.tasks()
-}
-
-// The greatest finish.
-fn greatest_finish(g: &TaskGraph, rows: &[Placement]) -> u64
-    requires { length rows.now ≡ (the_graph g.now).tasks }
-    ensures { result ≡ makespan (the_graph g.now) (schedule_of rows.now) }
-{
-    let mut most = 0;
-    for t in 0..g.tasks() {
-        most = (rows[t].start as u64 + g.works()[t] as u64).max(most);
-    }
-    most
 }
 
 // The makespan of the rows, one for each task, or why they are no feasible schedule.
@@ -120,21 +143,8 @@ pub fn check(g: &TaskGraph, rows: &[Placement]) -> Result<u64, CheckFault>
     ensures is { result ≡ checked (the_graph g.now) rows.now }
     ensures exactly { Judged (the_graph g.now) rows.now result }
 {
-    let n = g.tasks();
-    if rows.len() != n {
-        return Err(CheckFault::Rows(n));
+    if rows.len() != g.tasks() {
+        return Err(CheckFault::Rows(g.tasks()));
     }
-    let row = lowest(g, rows, Rule::Range);
-    if row < n {
-        return Err(CheckFault::Rows(row));
-    }
-    let early = lowest(g, rows, Rule::Early);
-    if early < n {
-        return Err(CheckFault::Early(early));
-    }
-    let overlap = lowest(g, rows, Rule::Overlap);
-    if overlap < n {
-        return Err(CheckFault::Overlap(overlap));
-    }
-    Ok(greatest_finish(g, rows))
+    TaskRows { graph: g, rows }.judged()
 }

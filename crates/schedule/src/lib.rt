@@ -5,5 +5,4 @@ pub mod checked;
 pub mod fault;
 pub mod fault_refusal;
 pub mod list;
-pub mod rule;
 mod waiting;

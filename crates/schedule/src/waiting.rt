@@ -1,60 +1,79 @@
-ghost use Rattle.std.specs.Prelude.{◌≡◌, ◌<◌, ◌≤◌, ◌&&◌, [], length, ◌==◌};
-ghost use Rattle.model.specs.Partial.{is_free};
-ghost use Rattle.heap.specs.Bag.{insert};
+ghost use Rattle.std.specs.Prelude.{◌≡◌, ◌<◌, ◌≤◌, [], length};
+ghost use Rattle.std.specs.Option.{option_map};
+ghost use Rattle.heap.specs.Bag.{insert, first, rest};
 ghost use Rattle.loader.specs.Meaning.{the_graph};
 ghost use Rattle.partial.specs.Meaning.{the_partial};
 ghost use Rattle.queue.specs.ReadyTasks.{ready_before};
 ghost use Rattle.queue.specs.ReadyBags.{ready_bag, ready_room};
-ghost use Rattle.schedule.specs.Waiting.{ready_task, free_tasks, released};
+ghost use Rattle.schedule.specs.Waiting.{ready_task, free_tasks, released_by};
 
 use loader::graph::TaskGraph;
 use partial::partial::PartialSchedule;
 use queue::ready::ReadyTask;
 use queue::ready::ready_heap::ReadyHeap;
 
-// Task t waits for its turn.
-fn enlist(g: &TaskGraph, t: usize, waiting: &mut ReadyHeap)
-    requires task { t < (the_graph g.now).tasks }
-    requires room { length (ready_bag waiting.old) < ready_room waiting.old }
-    ensures bag { ready_bag waiting.new ≡ insert ready_before (ready_task (the_graph g.now) t) (ready_bag waiting.old) }
-    ensures room { ready_room waiting.new ≡ ready_room waiting.old }
-{
-    let level = g.bottom_levels()[t];
-    let _added = waiting.put(ReadyTask { level, task: t });
+// Tasks that wait for their turn, with room for those of any graph. Graph and partial schedule are
+// lent at each call, since the partial schedule is another one after each turn.
+#[derive(Drop)]
+pub(crate) struct WaitingTasks<'a> {
+    heap: ReadyHeap<'a>,
+    ghost room: { ready_room heap ≡ 32 },
 }
 
-// Every free task waits for its turn.
-pub(crate) fn enlist_free(g: &TaskGraph, q: &PartialSchedule, waiting: &mut ReadyHeap)
-    requires empty { ready_bag waiting.old ≡ [] }
-    requires room { (the_graph g.now).tasks ≤ ready_room waiting.old }
-    ensures bag { ready_bag waiting.new ≡ free_tasks (the_graph g.now) (the_partial q.now) }
-    ensures room { ready_room waiting.new ≡ ready_room waiting.old }
-{
-    for t in 0..g.tasks() {
-        if q.is_free(g, t) {
-            enlist(g, t, waiting);
+impl WaitingTasks<'_> {
+    // None wait.
+    pub(crate) fn start(slots: &mut [ReadyTask; 32]) -> WaitingTasks<'_>
+        ensures { ready_bag result.heap ≡ [] }
+    {
+        WaitingTasks {
+            heap: ReadyHeap::start(slots),
         }
     }
-}
 
-// Whether transfer k leads from task t to a task that is free.
-fn does_release(g: &TaskGraph, q: &PartialSchedule, t: usize, k: usize) -> bool
-    requires { k < (the_graph g.now).count }
-    ensures { result ≡ ((the_graph g.now).from k == t && is_free (the_graph g.now) (the_partial q.now) ((the_graph g.now).to k)) }
-{
-    let e = g.transfers()[k];
-    e.from as usize == t && q.is_free(g, e.to as usize)
-}
+    // Task t waits for its turn.
+    fn enlist(&mut self, g: &TaskGraph, t: usize)
+        requires task { t < (the_graph g.now).tasks }
+        requires room { length (ready_bag self.old.heap) < 32 }
+        ensures { ready_bag self.new.heap
+            ≡ insert ready_before (ready_task (the_graph g.now) t) (ready_bag self.old.heap) }
+    {
+        let level = g.bottom_levels()[t];
+        self.heap.put(ReadyTask { level, task: t });
+    }
 
-// The tasks that task t, just placed, leads to wait for their turn if they are free now.
-pub(crate) fn release(g: &TaskGraph, q: &PartialSchedule, t: usize, waiting: &mut ReadyHeap)
-    requires { length (released (the_graph g.now) (the_partial q.now) t (the_graph g.now).count (ready_bag waiting.old)) ≤ ready_room waiting.old }
-    ensures bag { ready_bag waiting.new ≡ released (the_graph g.now) (the_partial q.now) t (the_graph g.now).count (ready_bag waiting.old) }
-    ensures room { ready_room waiting.new ≡ ready_room waiting.old }
-{
-    for k in 0..g.transfers().len() {
-        if does_release(g, q, t, k) {
-            enlist(g, g.transfers()[k].to as usize, waiting);
+    // Every free task waits for its turn.
+    pub(crate) fn enlist_free(&mut self, g: &TaskGraph, q: &PartialSchedule)
+        requires { ready_bag self.old.heap ≡ [] }
+        ensures { ready_bag self.new.heap ≡ free_tasks (the_graph g.now) (the_partial q.now) }
+    {
+        for t in 0..g.tasks() {
+            if q.is_free(g, t) {
+                self.enlist(g, t);
+            }
         }
+    }
+
+    // The tasks that task t, just placed, leads to wait for their turn if they are free now.
+    pub(crate) fn release(&mut self, g: &TaskGraph, q: &PartialSchedule, t: usize)
+        requires { length
+            (released_by (the_graph g.now) (the_partial q.now) t (ready_bag self.old.heap)) ≤ 32 }
+        ensures { ready_bag self.new.heap
+            ≡ released_by (the_graph g.now) (the_partial q.now) t (ready_bag self.old.heap) }
+    {
+        for e in g.transfers() {
+            let (from, to) = (usize::from(e.from), usize::from(e.to));
+            if from == t && q.is_free(g, to) {
+                self.enlist(g, to);
+            }
+        }
+    }
+
+    // Takes out the task whose turn it is: the one with the greatest bottom level, among equals the
+    // lowest number.
+    pub(crate) fn take(&mut self) -> Option<usize>
+        ensures is { result ≡ option_map (λ x. x.task) (first (ready_bag self.old.heap)) }
+        ensures after { ready_bag self.new.heap ≡ rest (ready_bag self.old.heap) }
+    {
+        self.heap.take().map(|next| next.task)
     }
 }

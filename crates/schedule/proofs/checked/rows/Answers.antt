@@ -1,8 +1,11 @@
-use Rattle.std.proofs.Common.{arith}
-use Rattle.schedule.proofs.Passing.{rows_are}
+use Rattle.std.proofs.Common.{arith, rules, tests, get_or, None}
+use Rattle.schedule.proofs.Passing.{row_of, rows_are}
+use Rattle.model.proofs.Chains.{made-at}
+use Rattle.schedule.specs.Rows.{blank}
 use Rattle.schedule.proofs.checked.rows.Goals as goal
 
-pub returns : goal.returns
-returns c =
-    let v = c.loop-t.invariant in
-    record { len = v.0; is = rows_are c.loop-t.rows c.args.q.now.places v.0 c.args.q.now.sized (λ k h. v.1 k (omega arith)) }
+pub returns-clause-is : goal.returns-clause-is
+returns-clause-is c =
+    let q = c.args.q.now in
+    rows_are c.from_fn.result q.places c.from_fn.ensures.items.long q.sized
+    (λ k h. made-at (λ t. row_of (get_or q.places t None)) _ (λ x r p m. search (rules, tests)) c.from_fn.result 0 32 c.from_fn.ensures.items.each k blank (omega arith) (omega arith))
