@@ -1,11 +1,18 @@
 use Rattle.std.specs.Prelude.{ℕ, List, ◌++◌, codes, decimal}
+use Rattle.planrun.specs.declared.lines.HeadLine.{HeadLine}
+use Rattle.planrun.specs.declared.lines.TaskLine.{TaskLine}
+use Rattle.planrun.specs.declared.lines.LengthLine.{LengthLine}
 
 -- the lines that are printed, without the byte 10 that ends each
-abbrev pub head_line : ℕ → ℕ → List ℕ
-head_line tasks machines = codes "tasks " ++ (decimal tasks ++ (codes " machines " ++ decimal machines))
+abbrev pub head_text : HeadLine → List ℕ
+head_text l = codes "tasks " ++ (decimal l.tasks ++ (codes " machines " ++ decimal l.machines))
 
-abbrev pub task_line : ℕ → ℕ → ℕ → ℕ → List ℕ
-task_line task machine start finish = codes "task " ++ (decimal task ++ (codes " machine " ++ (decimal machine ++ (codes " start " ++ (decimal start ++ (codes " finish " ++ decimal finish))))))
+abbrev pub task_text : TaskLine → List ℕ
+task_text l =
+    codes "task " ++ (decimal l.task
+    ++ (codes " machine " ++ (decimal l.machine
+    ++ (codes " start " ++ (decimal l.start
+    ++ (codes " finish " ++ decimal l.finish))))))
 
-abbrev pub length_line : ℕ → List ℕ
-length_line length = codes "length " ++ decimal length
+abbrev pub length_text : LengthLine → List ℕ
+length_text l = codes "length " ++ decimal l.length

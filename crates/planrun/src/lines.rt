@@ -1,17 +1,14 @@
-ghost use Rattle.std.specs.Prelude.{Some};
-ghost use Rattle.planrun.specs.Lines.{head_line, task_line, length_line};
-
 use std::fmt;
 
 // The first line: how many tasks and machines there are.
-#[derive(Clone, Copy)]
+#[derive(Clone, Copy, PartialEq, Eq, Debug)]
 pub struct HeadLine {
     pub tasks: usize,
     pub machines: usize,
 }
 
 // A task with its machine, its start and its finish.
-#[derive(Clone, Copy)]
+#[derive(Clone, Copy, PartialEq, Eq, Debug)]
 pub struct TaskLine {
     pub task: usize,
     pub machine: u8,
@@ -20,29 +17,36 @@ pub struct TaskLine {
 }
 
 // The last line: the makespan.
-#[derive(Clone, Copy)]
+#[derive(Clone, Copy, PartialEq, Eq, Debug)]
 pub struct LengthLine {
     pub length: u64,
 }
 
 impl fmt::Display for HeadLine {
-    ghost output = { λ l. Some (head_line l.tasks l.machines) };
+    ghost use Rattle.std.specs.Prelude.{Some};
+    ghost use Rattle.planrun.specs.Lines.{head_text};
+
+    ghost output = { λ l. Some (head_text l) };
 
     fn fmt<W: fmt::Write>(&self, f: &mut fmt::Formatter<W>) -> fmt::Result {
-        let tasks = self.tasks;
-        let machines = self.machines;
+        let HeadLine { tasks, machines } = *self;
         write!(f, "tasks {tasks} machines {machines}")
     }
 }
 
 impl fmt::Display for TaskLine {
-    ghost output = { λ l. Some (task_line l.task l.machine l.start l.finish) };
+    ghost use Rattle.std.specs.Prelude.{Some};
+    ghost use Rattle.planrun.specs.Lines.{task_text};
+
+    ghost output = { λ l. Some (task_text l) };
 
     fn fmt<W: fmt::Write>(&self, f: &mut fmt::Formatter<W>) -> fmt::Result {
-        let task = self.task;
-        let machine = self.machine;
-        let start = self.start;
-        let finish = self.finish;
+        let TaskLine {
+            task,
+            machine,
+            start,
+            finish,
+        } = *self;
         write!(
             f,
             "task {task} machine {machine} start {start} finish {finish}"
@@ -51,7 +55,10 @@ impl fmt::Display for TaskLine {
 }
 
 impl fmt::Display for LengthLine {
-    ghost output = { λ l. Some (length_line l.length) };
+    ghost use Rattle.std.specs.Prelude.{Some};
+    ghost use Rattle.planrun.specs.Lines.{length_text};
+
+    ghost output = { λ l. Some (length_text l) };
 
     fn fmt<W: fmt::Write>(&self, f: &mut fmt::Formatter<W>) -> fmt::Result {
         let length = self.length;

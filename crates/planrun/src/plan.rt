@@ -1,12 +1,13 @@
-ghost use Rattle.std.specs.Prelude.{◌≡◌, ◌<◌, MatchResult};
-ghost use Rattle.loader.specs.Meaning.{the_graph};
-ghost use Rattle.planrun.specs.Planning.{PlanOf, RefusalOf, head_of, line_of, length_of};
+ghost use Rattle.std.specs.Prelude.{MatchResult};
+ghost use Rattle.planrun.specs.Planning.{PlanOf, RefusalOf};
 
 use crate::lines::{HeadLine, LengthLine, TaskLine};
 use loader::graph::TaskGraph;
 use loader::load::load;
+use partial::placement::Placement;
 use refusal::refusal::Refusal;
 use schedule::checked::{CheckedSchedule, checked_list_schedule};
+use std::fmt;
 
 // A graph and its checked list schedule.
 #[derive(Clone, Copy)]
@@ -25,36 +26,58 @@ pub fn plan_file(bytes: &[u8]) -> Result<Planned, Refusal>
     Ok(Planned { graph, schedule })
 }
 
-// The first line.
-pub(crate) fn head_line(planned: &Planned) -> HeadLine
-    ensures { result ≡ head_of planned.now }
-{
-    HeadLine {
-        tasks: planned.graph.tasks(),
-        machines: planned.graph.machines(),
+impl Planned {
+    ghost use Rattle.std.specs.Prelude.{◌≡◌, ◌<◌};
+    ghost use Rattle.loader.specs.Meaning.{the_graph};
+    ghost use Rattle.planrun.specs.Planning.{head_of, line_of, length_of};
+
+    // The first line.
+    fn head_line(&self) -> HeadLine
+        ensures { result ≡ head_of self.now }
+    {
+        HeadLine {
+            tasks: self.graph.tasks(),
+            machines: self.graph.machines(),
+        }
+    }
+
+    // The line of task t.
+    fn task_line(&self, t: usize) -> TaskLine
+        requires { t < (the_graph self.now.graph).tasks }
+        ensures { result ≡ line_of self.now t }
+    {
+        let Placement { machine, start } = self.schedule.rows[t];
+        let finish = u64::from(start) + u64::from(self.graph.work(t));
+        TaskLine {
+            task: t,
+            machine,
+            start,
+            finish,
+        }
+    }
+
+    // The last line.
+    fn length_line(&self) -> LengthLine
+        ensures { result ≡ length_of self.now }
+    {
+        LengthLine {
+            length: self.schedule.makespan,
+        }
     }
 }
 
-// The last line.
-pub(crate) fn length_line(planned: &Planned) -> LengthLine
-    ensures { result ≡ length_of planned.now }
-{
-    LengthLine {
-        length: planned.schedule.makespan,
-    }
-}
+// The lines of a plan, a line for each task between the first and the last.
+impl fmt::Display for Planned {
+    ghost use Rattle.std.specs.Prelude.{Some};
+    ghost use Rattle.planrun.specs.Planning.{printed};
 
-// The line of task t.
-pub(crate) fn task_line(planned: &Planned, t: usize) -> TaskLine
-    requires { t < (the_graph planned.now.graph).tasks }
-    ensures { result ≡ line_of planned.now t }
-{
-    let row = planned.schedule.rows[t];
-    let finish = row.start as u64 + planned.graph.works()[t] as u64;
-    TaskLine {
-        task: t,
-        machine: row.machine,
-        start: row.start,
-        finish,
+    ghost output = { λ p. Some (printed p) };
+
+    fn fmt<W: fmt::Write>(&self, f: &mut fmt::Formatter<W>) -> fmt::Result {
+        writeln!(f, "{}", self.head_line())?;
+        for t in 0..self.graph.tasks() {
+            writeln!(f, "{}", self.task_line(t))?;
+        }
+        write!(f, "{}", self.length_line())
     }
 }
