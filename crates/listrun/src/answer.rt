@@ -5,7 +5,7 @@ use queue::entry::Entry;
 use std::fmt;
 
 // What an open list answers.
-#[derive(Clone, Copy)]
+#[derive(Clone, Copy, PartialEq, Eq, Debug)]
 pub enum Answer {
     Added(Entry),
     Full(Entry),
@@ -19,10 +19,10 @@ impl fmt::Display for Answer {
 
     fn fmt<W: fmt::Write>(&self, f: &mut fmt::Formatter<W>) -> fmt::Result {
         match *self {
-            Answer::Added(Entry { bound, node }) => write!(f, "+{bound}/{node}"),
-            Answer::Full(Entry { bound, node }) => write!(f, "full {bound}/{node}"),
-            Answer::Shown(Entry { bound, node }) => write!(f, "?{bound}/{node}"),
-            Answer::Taken(Entry { bound, node }) => write!(f, "-{bound}/{node}"),
+            Answer::Added(e) => write!(f, "+{e}"),
+            Answer::Full(e) => write!(f, "full {e}"),
+            Answer::Shown(e) => write!(f, "?{e}"),
+            Answer::Taken(e) => write!(f, "-{e}"),
             Answer::Empty => write!(f, "empty"),
         }
     }

@@ -19,18 +19,13 @@ fn ask<L: OpenList>(l: &mut L, request: Request) -> Answer
                 Answer::Full(e)
             }
         }
-        Request::Look => match l.look() {
-            Some(e) => Answer::Shown(e),
-            None => Answer::Empty,
-        },
-        Request::Take => match l.take() {
-            Some(e) => Answer::Taken(e),
-            None => Answer::Empty,
-        },
+        Request::Look => l.look().map_or(Answer::Empty, Answer::Shown),
+        Request::Take => l.take().map_or(Answer::Empty, Answer::Taken),
     }
 }
 
-// Asks two lists the same. Each answers and holds what its own bag and limit say: so where these are the same, the lists answer alike, and so it stays.
+// Asks two lists the same. Each answers and holds what its own bag and limit say: so where these are the same, the
+// lists answer alike, and so it stays.
 pub fn ask_both<A: OpenList, B: OpenList>(
     a: &mut A,
     b: &mut B,
@@ -38,9 +33,12 @@ pub fn ask_both<A: OpenList, B: OpenList>(
 ) -> (Answer, Answer)
     ensures first { result.0 ≡ answered request (A.bag a.old) (A.limit a.old) }
     ensures second { result.1 ≡ answered request (B.bag b.old) (B.limit b.old) }
-    ensures bags { (A.bag a.new ≡ bag_after request (A.bag a.old) (A.limit a.old)) × (B.bag b.new ≡ bag_after request (B.bag b.old) (B.limit b.old)) }
-    ensures alike { A.bag a.old ≡ B.bag b.old → A.limit a.old ≡ B.limit b.old → result.0 ≡ result.1 }
-    ensures stays { A.bag a.old ≡ B.bag b.old → A.limit a.old ≡ B.limit b.old → A.bag a.new ≡ B.bag b.new }
+    ensures bags { (A.bag a.new ≡ bag_after request (A.bag a.old) (A.limit a.old))
+        × (B.bag b.new ≡ bag_after request (B.bag b.old) (B.limit b.old)) }
+    ensures alike { A.bag a.old ≡ B.bag b.old → A.limit a.old ≡ B.limit b.old
+        → result.0 ≡ result.1 }
+    ensures stays { A.bag a.old ≡ B.bag b.old → A.limit a.old ≡ B.limit b.old
+        → A.bag a.new ≡ B.bag b.new }
     ensures limits { (A.limit a.new ≡ A.limit a.old) × (B.limit b.new ≡ B.limit b.old) }
 {
     let x = ask(a, request);

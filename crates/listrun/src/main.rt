@@ -25,7 +25,7 @@ fn run_line<A: OpenList, B: OpenList>(
 ) -> anyhow::Result<()> {
     let mut of_a = String::new(heap);
     let mut of_b = String::new(heap);
-    for _i in 0..16 {
+    for _ in 0..16 {
         let (x, y) = ask_both(a, b, requests.next());
         of_a.push_str(format!(in heap; " {x}")?.as_str())?;
         of_b.push_str(format!(in heap; " {y}")?.as_str())?;
@@ -50,7 +50,7 @@ fn main(rt: HostRuntime) -> anyhow::Result<()> {
         number: 0,
         state: 1,
     };
-    for _line in 0..320 {
+    for _ in 0..320 {
         run_line(&rt, rt.alloc(), &mut heap, &mut chain, &mut requests)?;
     }
     Ok(())
