@@ -1,7 +1,9 @@
-use Rattle.std.specs.Prelude.{◌≡◌, ℕ, List, [], ◌∷◌, Ok, Err}
+use Rattle.std.specs.Prelude.{◌≡◌, ℕ, List, [], ◌∷◌, Ok, Err, Result}
 use Rattle.model.specs.Graph.{Graph, level}
 use Rattle.model.specs.Partial.{Partial, whole}
 use Rattle.model.specs.Schedule.{makespan}
+use Rattle.refusal.specs.declared.layer.Layer.{Layer}
+use Rattle.refusal.specs.declared.refusal.Refusal.{Refusal}
 use Rattle.refusal.specs.declared.layer.Layer.TheVariants.{Bytes, Graph as GraphLayer, Check}
 use Rattle.loader.specs.declared.transfer.Transfer.{Transfer}
 use Rattle.loader.specs.Description.{Description, described}
@@ -19,9 +21,21 @@ transfer a b c = record { from = a; to = b; cost = c }
 abbrev row : ℕ → ℕ → Placement
 row m s = record { machine = m; start = s }
 
+abbrev refused : ℕ → ℕ → Layer → Refusal
+refused number place layer = record { number = number; place = place; layer = layer }
+
+-- what the check tells of rows, with a fault as its refusal
+abbrev judged : Graph → List Placement → Result ℕ Refusal
+judged g rows = lifted check_refusal (checked g rows)
+
 -- four tasks on two machines
 abbrev pub example : Description
-example = record { tasks = 4; machines = 2; works = 2 ∷ 3 ∷ 3 ∷ 2 ∷ []; transfers = transfer 0 1 1 ∷ transfer 0 2 1 ∷ transfer 1 3 2 ∷ transfer 2 3 1 ∷ [] }
+example = record {
+  tasks = 4;
+  machines = 2;
+  works = 2 ∷ 3 ∷ 3 ∷ 2 ∷ [];
+  transfers = transfer 0 1 1 ∷ transfer 0 2 1 ∷ transfer 1 3 2 ∷ transfer 2 3 1 ∷ [];
+}
 
 abbrev pub example_file : List ℕ
 example_file =
@@ -54,28 +68,35 @@ abbrev pub ExampleRead : Type 0
 ExampleRead = parse example_file ≡ Ok example
 
 abbrev pub Levels : Type 0
-Levels = (level (described example) 0 ≡ 7) × (level (described example) 1 ≡ 5) × (level (described example) 2 ≡ 5) × (level (described example) 3 ≡ 2)
+Levels =
+    (level (described example) 0 ≡ 7)
+    × (level (described example) 1 ≡ 5)
+    × (level (described example) 2 ≡ 5)
+    × (level (described example) 3 ≡ 2)
 
 abbrev finished : Partial
 finished = listed (described example) 4
 
 abbrev pub ListSchedule : Type 0
 ListSchedule =
-    ((finished.machine 0 ≡ 0) × (finished.machine 1 ≡ 0) × (finished.machine 2 ≡ 1) × (finished.machine 3 ≡ 0))
-    × ((finished.start 0 ≡ 0) × (finished.start 1 ≡ 2) × (finished.start 2 ≡ 3) × (finished.start 3 ≡ 7))
+    ((finished.machine 0 ≡ 0) × (finished.machine 1 ≡ 0)
+    × (finished.machine 2 ≡ 1) × (finished.machine 3 ≡ 0))
+    × ((finished.start 0 ≡ 0) × (finished.start 1 ≡ 2)
+    × (finished.start 2 ≡ 3) × (finished.start 3 ≡ 7))
     × (makespan (described example) (whole finished) ≡ 9)
 
 abbrev pub Checks : Type 0
 Checks =
-    (lifted check_refusal (checked (described example) (row 0 0 ∷ row 1 3 ∷ row 0 2 ∷ row 1 6 ∷ [])) ≡ Ok 8)
-    × (lifted check_refusal (checked (described example) (row 0 0 ∷ row 1 3 ∷ row 0 2 ∷ row 1 5 ∷ [])) ≡ Err (record { number = 14; place = 3; layer = Check }))
+    (judged (described example) (row 0 0 ∷ row 1 3 ∷ row 0 2 ∷ row 1 6 ∷ []) ≡ Ok 8)
+    × (judged (described example) (row 0 0 ∷ row 1 3 ∷ row 0 2 ∷ row 1 5 ∷ [])
+    ≡ Err (refused 14 3 Check))
 
 abbrev pub Overlaps : Type 0
 Overlaps =
-    (lifted check_refusal (checked pair (row 0 0 ∷ row 0 2 ∷ [])) ≡ Ok 4)
-    × (lifted check_refusal (checked pair (row 0 0 ∷ row 0 1 ∷ [])) ≡ Err (record { number = 15; place = 0; layer = Check }))
+    (judged pair (row 0 0 ∷ row 0 2 ∷ []) ≡ Ok 4)
+    × (judged pair (row 0 0 ∷ row 0 1 ∷ []) ≡ Err (refused 15 0 Check))
 
 abbrev pub Refused : Type 0
 Refused =
-    (lifted refusal_of (parse []) ≡ Err (record { number = 1; place = 0; layer = Bytes }))
-    × (lifted refusal_of (parse there_and_back) ≡ Err (record { number = 8; place = 8; layer = GraphLayer }))
+    (lifted refusal_of (parse []) ≡ Err (refused 1 0 Bytes))
+    × (lifted refusal_of (parse there_and_back) ≡ Err (refused 8 8 GraphLayer))

@@ -1,6 +1,6 @@
-use loader::fault_refusal::refusal;
 use loader::graph::TaskGraph;
 use loader::load::load;
+use refusal::refusal::Refusal;
 use std::alloc::{AllocError, Global};
 
 // A run file that is written record by record.
@@ -40,14 +40,9 @@ impl RunFile {
 
     // The first `count` of the pairs of tasks below 32, each from a lower to a higher number.
     pub(crate) fn pairs(&mut self, count: usize) -> Result<(), AllocError> {
-        let mut left = count;
-        for from in 0..31u16 {
-            for to in from + 1..32 {
-                if left > 0 {
-                    self.record(3, &[from, to, 0])?;
-                    left -= 1;
-                }
-            }
+        let all = (0..31u16).flat_map(|from| (from + 1..32).map(move |to| [from, to, 0]));
+        for pair in all.take(count) {
+            self.record(3, &pair)?;
         }
         Ok(())
     }
@@ -62,7 +57,7 @@ impl RunFile {
     }
 
     // How the file is told: see `told`.
-    pub(crate) fn told(&self) -> (u8, usize) {
+    pub(crate) fn told(&self) -> Told {
         told(self.bytes.as_slice())
     }
 
@@ -71,14 +66,16 @@ impl RunFile {
     }
 }
 
-// The number and the place of the refusal; 0 and the number of tasks where the file is read.
-pub(crate) fn told(bytes: &[u8]) -> (u8, usize) {
+// How a file is told: the number of tasks where it is read, else the number and the place of the refusal.
+pub(crate) type Told = Result<usize, (u8, usize)>;
+
+pub(crate) fn told(bytes: &[u8]) -> Told {
     let mut graph = TaskGraph::new();
     match load(&mut graph, bytes) {
-        Ok(()) => (0, graph.tasks()),
+        Ok(()) => Ok(graph.tasks()),
         Err(e) => {
-            let refusal = refusal(e);
-            (refusal.number, refusal.place)
+            let refusal = Refusal::from(e);
+            Err((refusal.number, refusal.place))
         }
     }
 }

@@ -15,28 +15,21 @@ const ANY_CELL: Cell = Cell {
     next: 18446744073709551615,
 };
 
-fn pair(e: Option<Entry>) -> Option<(u64, usize)> {
-    match e {
-        Some(e) => Some((e.bound, e.node)),
-        None => None,
-    }
-}
-
 fn without_memory(rt: &impl Abort, list: &mut impl OpenList) {
     assert_eq!(rt; list.capacity(), 0);
     assert!(rt; !list.put(ANY), "full from the start");
     assert_eq!(rt; list.count(), 0);
-    assert_eq!(rt; pair(list.look()), None);
-    assert_eq!(rt; pair(list.take()), None);
+    assert_eq!(rt; list.look(), None);
+    assert_eq!(rt; list.take(), None);
 }
 
 fn one_after_another(rt: &impl Abort, list: &mut impl OpenList) {
     for i in 0..3 {
         assert!(rt; list.put(Entry { bound: 9, node: i }));
         assert!(rt; !list.put(ANY), "one entry a place");
-        assert_eq!(rt; pair(list.look()), Some((9, i)));
-        assert_eq!(rt; pair(list.take()), Some((9, i)));
-        assert_eq!(rt; pair(list.take()), None);
+        assert_eq!(rt; list.look(), Some(Entry { bound: 9, node: i }));
+        assert_eq!(rt; list.take(), Some(Entry { bound: 9, node: i }));
+        assert_eq!(rt; list.take(), None);
     }
 }
 
@@ -49,9 +42,9 @@ fn with_ties(rt: &impl Abort, list: &mut impl OpenList) {
     assert!(rt; list.put(ANY));
     assert!(rt; !list.put(Entry { bound: 0, node: 0 }));
     assert_eq!(rt; list.count(), 5);
-    assert_eq!(rt; pair(list.take()), Some((3, 9)));
-    assert_eq!(rt; pair(list.take()), Some((3, 9)));
-    assert_eq!(rt; pair(list.look()), Some((3, 2)));
+    assert_eq!(rt; list.take(), Some(Entry { bound: 3, node: 9 }));
+    assert_eq!(rt; list.take(), Some(Entry { bound: 3, node: 9 }));
+    assert_eq!(rt; list.look(), Some(Entry { bound: 3, node: 2 }));
     assert_eq!(rt; list.count(), 3);
 }
 

@@ -1,12 +1,12 @@
-use crate::files::{EXAMPLE, RunFile, told};
-use loader::fault_refusal::refusal;
+use crate::files::{EXAMPLE, RunFile, Told, told};
 use loader::graph::TaskGraph;
 use loader::load::load;
+use refusal::refusal::Refusal;
 use std::alloc::Global;
 use std::test::Fail;
 
 // A file of equal tasks on one machine, ended.
-fn plain(heap: Global, tasks: u16, machines: u16, work: u16) -> Result<(u8, usize), Fail> {
+fn plain(heap: Global, tasks: u16, machines: u16, work: u16) -> Result<Told, Fail> {
     let mut file = RunFile::new(heap, tasks, machines)?;
     file.tasks(tasks, work)?;
     file.end()?;
@@ -14,7 +14,7 @@ fn plain(heap: Global, tasks: u16, machines: u16, work: u16) -> Result<(u8, usiz
 }
 
 // Two tasks and one transfer.
-fn single(heap: Global, from: u16, to: u16, cost: u16) -> Result<(u8, usize), Fail> {
+fn single(heap: Global, from: u16, to: u16, cost: u16) -> Result<Told, Fail> {
     let mut file = RunFile::new(heap, 2, 1)?;
     file.tasks(2, 1)?;
     file.record(3, &[from, to, cost])?;
@@ -23,44 +23,44 @@ fn single(heap: Global, from: u16, to: u16, cost: u16) -> Result<(u8, usize), Fa
 }
 
 // Tasks, machines and work; then how the file is told.
-const COUNTS: [(u16, u16, u16, u8, usize); 8] = [
-    (31, 8, 1, 0, 31),
-    (32, 1, 1000, 0, 32),
-    (33, 1, 1, 4, 0),
-    (0, 1, 1, 4, 0),
-    (1, 9, 1, 4, 0),
-    (1, 0, 1, 4, 0),
-    (2, 1, 1001, 4, 8),
-    (2, 1, 0, 4, 8),
+const COUNTS: [(u16, u16, u16, Told); 8] = [
+    (31, 8, 1, Ok(31)),
+    (32, 1, 1000, Ok(32)),
+    (33, 1, 1, Err((4, 0))),
+    (0, 1, 1, Err((4, 0))),
+    (1, 9, 1, Err((4, 0))),
+    (1, 0, 1, Err((4, 0))),
+    (2, 1, 1001, Err((4, 8))),
+    (2, 1, 0, Err((4, 8))),
 ];
 
 #[test]
 fn numbers_in_range(rt: HostRuntime) -> Result<(), Fail> {
-    for (tasks, machines, work, number, place) in COUNTS {
-        assert_eq!(rt; plain(rt.alloc(), tasks, machines, work)?, (number, place));
+    for (tasks, machines, work, wanted) in COUNTS {
+        assert_eq!(rt; plain(rt.alloc(), tasks, machines, work)?, wanted);
     }
     Ok(())
 }
 
 // From, to and cost; then how the file is told.
-const TRANSFERS: [(u16, u16, u16, u8, usize); 5] = [
-    (1, 0, 1000, 0, 2),
-    (0, 1, 1001, 4, 20),
-    (0, 2, 0, 4, 20),
-    (2, 0, 0, 4, 20),
-    (1, 1, 0, 4, 20),
+const TRANSFERS: [(u16, u16, u16, Told); 5] = [
+    (1, 0, 1000, Ok(2)),
+    (0, 1, 1001, Err((4, 20))),
+    (0, 2, 0, Err((4, 20))),
+    (2, 0, 0, Err((4, 20))),
+    (1, 1, 0, Err((4, 20))),
 ];
 
 #[test]
 fn transfers_in_range(rt: HostRuntime) -> Result<(), Fail> {
-    for (from, to, cost, number, place) in TRANSFERS {
-        assert_eq!(rt; single(rt.alloc(), from, to, cost)?, (number, place));
+    for (from, to, cost, wanted) in TRANSFERS {
+        assert_eq!(rt; single(rt.alloc(), from, to, cost)?, wanted);
     }
     Ok(())
 }
 
 // So many pairs of 32 tasks, then one more transfer.
-fn crowded(heap: Global, count: usize, last: [u16; 3]) -> Result<(u8, usize), Fail> {
+fn crowded(heap: Global, count: usize, last: [u16; 3]) -> Result<Told, Fail> {
     let mut file = RunFile::new(heap, 32, 1)?;
     file.tasks(32, 1)?;
     file.pairs(count)?;
@@ -71,18 +71,18 @@ fn crowded(heap: Global, count: usize, last: [u16; 3]) -> Result<(u8, usize), Fa
 
 // How many pairs come first, and the last transfer; then how the file is told. At the 129th transfer the range
 // is tested before the number of transfers, and that before the pair.
-const CROWDS: [(usize, [u16; 3], u8, usize); 5] = [
-    (127, [30, 31, 0], 0, 32),
-    (128, [30, 31, 0], 5, 1480),
-    (128, [30, 32, 0], 4, 1480),
-    (128, [0, 1, 0], 5, 1480),
-    (127, [0, 1, 7], 6, 1470),
+const CROWDS: [(usize, [u16; 3], Told); 5] = [
+    (127, [30, 31, 0], Ok(32)),
+    (128, [30, 31, 0], Err((5, 1480))),
+    (128, [30, 32, 0], Err((4, 1480))),
+    (128, [0, 1, 0], Err((5, 1480))),
+    (127, [0, 1, 7], Err((6, 1470))),
 ];
 
 #[test]
 fn many_transfers(rt: HostRuntime) -> Result<(), Fail> {
-    for (count, last, number, place) in CROWDS {
-        assert_eq!(rt; crowded(rt.alloc(), count, last)?, (number, place));
+    for (count, last, wanted) in CROWDS {
+        assert_eq!(rt; crowded(rt.alloc(), count, last)?, wanted);
     }
     Ok(())
 }
@@ -93,22 +93,22 @@ fn records_due(rt: HostRuntime) -> Result<(), Fail> {
     let mut early = RunFile::new(heap, 2, 1)?;
     early.record(2, &[1])?;
     early.record(3, &[0, 1, 0])?;
-    assert_eq!(rt; early.told(), (2, 14));
+    assert_eq!(rt; early.told(), Err((2, 14)));
     let mut late = RunFile::new(heap, 1, 1)?;
     late.tasks(2, 1)?;
-    assert_eq!(rt; late.told(), (2, 14));
+    assert_eq!(rt; late.told(), Err((2, 14)));
     let mut long = RunFile::new(heap, 1, 1)?;
     long.record(2, &[1, 1])?;
-    assert_eq!(rt; long.told(), (3, 8));
+    assert_eq!(rt; long.told(), Err((3, 8)));
     let mut ended = RunFile::new(heap, 1, 1)?;
     ended.tasks(1, 1)?;
     ended.record(4, &[1])?;
-    assert_eq!(rt; ended.told(), (3, 14));
+    assert_eq!(rt; ended.told(), Err((3, 14)));
     let mut tail = RunFile::new(heap, 1, 1)?;
     tail.tasks(1, 1)?;
     tail.end()?;
     tail.push(0)?;
-    assert_eq!(rt; tail.told(), (7, 18));
+    assert_eq!(rt; tail.told(), Err((7, 18)));
     Ok(())
 }
 
@@ -119,34 +119,38 @@ fn long_payloads(rt: HostRuntime) -> Result<(), Fail> {
     file.number(9)?;
     assert_eq!(rt;
         file.told(),
-        (1, 8),
+        Err((1, 8)),
         "a payload past the end is found before the kind"
     );
     for _ in 0..65535 {
         file.push(0)?;
     }
-    assert_eq!(rt; file.told(), (2, 8), "a whole record of an unknown kind");
+    assert_eq!(rt;
+        file.told(),
+        Err((2, 8)),
+        "a whole record of an unknown kind"
+    );
     Ok(())
 }
 
 // The greatest of the example's record starts that is not above k.
 fn record_start(k: usize) -> usize {
-    let mut start = 0;
-    for s in [8, 14, 20, 26, 32, 42, 52, 62, 72] {
-        if s <= k {
-            start = s;
-        }
-    }
-    start
+    const STARTS: [usize; 9] = [8, 14, 20, 26, 32, 42, 52, 62, 72];
+    STARTS
+        .iter()
+        .copied()
+        .take_while(|&s| s <= k)
+        .last()
+        .unwrap_or(0)
 }
 
 #[test]
 fn truncated_example(rt: HostRuntime) {
     let file: &[u8] = EXAMPLE;
     for k in 0..file.len() {
-        assert_eq!(rt; told(&file[0..k]), (1, record_start(k)));
+        assert_eq!(rt; told(&file[0..k]), Err((1, record_start(k))));
     }
-    assert_eq!(rt; told(EXAMPLE), (0, 4));
+    assert_eq!(rt; told(EXAMPLE), Ok(4));
 }
 
 #[test]
@@ -161,7 +165,7 @@ fn cycles(rt: HostRuntime) -> Result<(), Fail> {
     file.end()?;
     assert_eq!(rt;
         file.told(),
-        (8, 20),
+        Err((8, 20)),
         "tasks 0 and 1 only lead into and out of the cycle"
     );
     Ok(())
@@ -174,7 +178,7 @@ fn refusals_as_text(rt: HostRuntime) -> Result<(), Fail> {
         Ok(()) => assert!(rt; false, "an empty file is refused"),
         Err(e) => {
             assert_eq!(rt;
-                refusal(e).to_string(rt.alloc())?.as_str(),
+                Refusal::from(e).to_string(rt.alloc())?.as_str(),
                 "refused 1 at 0 in bytes"
             );
         }

@@ -40,7 +40,7 @@ fn large_starts_are_kept_or_refused(rt: HostRuntime) {
     let graph = example();
     let mut places = [None; 32];
     places[0] = at(0, 4294967293);
-    let late = PartialSchedule::of(places);
+    let late = PartialSchedule::from(places);
     let Some(same) = late.append(&graph, 1, 0) else {
         return assert!(rt; false, "32 bits hold the start");
     };
@@ -58,7 +58,7 @@ fn machines_are_renamed(rt: HostRuntime) {
     places[0] = at(1, 0);
     places[1] = at(0, 3);
     places[2] = at(1, 2);
-    let normal = PartialSchedule::of(places).normal_form(&graph);
+    let normal = PartialSchedule::from(places).normal_form(&graph);
     assert_eq!(rt; normal.placement(0), at(0, 0));
     assert_eq!(rt; normal.placement(1), at(1, 3));
     assert_eq!(rt; normal.placement(2), at(0, 2));
