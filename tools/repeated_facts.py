@@ -45,10 +45,10 @@ def functions():
         if path.endswith("_tests.rt"):
             continue
         text = open(path, encoding="utf-8").read()
-        for m in re.finditer(r"^ *(?:pub(?:\(\w+\))? )?fn (\w+)(?:<.*?>)?\((.*?)\)(?: -> [^\n{]*)?\n((?: +(?:where|requires|ensures)\b.*?\n)?.*?)(?=^ *(?:\{|[^\n]*;)$|\Z)", text, re.M | re.S):
+        for m in re.finditer(r"^ *(?:pub(?:\(\w+\))? )?fn (\w+)(?:<.*?>)?\((.*?)\)(?: -> [^\n{]*)?\n((?: +(?:where|requires|ensures)\b.*?\n)?.*?)(?:^ *\{$|^[^\n]*;$|\Z)", text, re.M | re.S):
             name = path[len("crates/"):] + ":" + m.group(1)
             params = [" ".join(p.split()) for p in re.split(r",(?![^<(\[]*[>)\]])", m.group(2)) if p.strip()]
-            head = m.group(3)
+            head = m.group(0)[m.start(3) - m.start(0):]
             clauses = [" ".join(c.split()) for c in re.findall(r"^ *(?:requires|ensures)(?: \w+)? \{ (.*?) \}\s*;?$", head, re.M | re.S)]
             yield name, params, clauses
 
