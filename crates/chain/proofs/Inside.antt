@@ -1,10 +1,10 @@
-use Rattle.std.proofs.Common.{◌≡◌, ℕ, ◌<◌, length, Some, None, sym, ap, subst, arith}
-use native.Mathlib.Decide.{ℕ_discrete}
-use Rattle.heap.specs.Bag.{first}
+use Rattle.std.proofs.Common.{◌≡◌, ℕ, ◌<◌, length, Some, sym, subst, arith}
+use Rattle.bag.specs.Bag.{first}
 use Rattle.queue.specs.declared.entry.Entry.{Entry}
 use Rattle.chain.specs.declared.links.Links.{Links}
-use Rattle.chain.specs.Cells.{walk, entries_at}
+use Rattle.bag.proofs.Bags.{first-some}
 use Rattle.chain.specs.Chains.{chain_of, step_of}
+use Rattle.chain.specs.ChainBags.{length-chain}
 use Rattle.chain.proofs.Linking.{onward-inside, free-inside}
 
 -- where a cell is in use, the head is one; where a cell is free, the first free one is one
@@ -20,7 +20,4 @@ step_inside l k at e h = subst (λ (x : ℕ). x < length l.cells.now) (sym e) (o
 
 -- where there is a first entry, a cell is in use
 pub held : (l : Links) (e : Entry) → Some e ≡ first (chain_of l) → 0 < l.count
-held l e is = elim (ℕ_discrete l.count 0) [
-  | yes z ↦ absurd (let none : first (entries_at l.cells.now (walk l.cells.now l.count l.head)) ≡ None = ap (λ (n : ℕ). first (entries_at l.cells.now (walk l.cells.now n l.head))) z in cc)
-  | no n ↦ omega arith
-]
+held l e is = omega (arith, first-some (chain_of l) e is, length-chain l.cells.now l.head l.count)

@@ -1,7 +1,7 @@
 use Rattle.std.proofs.Common.{◌≡◌, ℕ, zero, suc, ◌+◌, ◌-◌, ◌<◌, ◌≤◌, true, false, cond, eqb, List, ◌∷◌, ◌++◌, length, get_or, take, drop, set, sym, refl, ap, ◌∙◌, subst, le_of_suc-le-suc, not-suc-le-zero, add-one, arith, length-set, take-append-drop, get_or-set_other, get_or-set_same}
 use native.Mathlib.Decide.{dec_lt}
 use Rattle.std.proofs.lemmas.List.{map-append}
-use Rattle.heap.specs.Bag.{insert, rest}
+use Rattle.bag.specs.Bag.{insert, rest}
 use Rattle.queue.specs.declared.entry.Entry.{Entry}
 use Rattle.chain.specs.declared.cell.Cell.{Cell}
 use Rattle.queue.specs.Entries.{entry_before}

@@ -1,5 +1,5 @@
 use Rattle.std.proofs.Common.{◌≡◌, ℕ, zero, suc, ◌+◌, ◌<◌, false, List, length, set, Some, None, sym, refl, ap, ◌∙◌, subst, arith}
-use Rattle.heap.specs.Bag.{insert}
+use Rattle.bag.specs.Bag.{insert}
 use Rattle.queue.specs.declared.entry.Entry.{Entry}
 use Rattle.queue.specs.Entries.{entry_before}
 use Rattle.chain.specs.declared.cell.Cell.{Cell}

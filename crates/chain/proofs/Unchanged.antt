@@ -1,7 +1,7 @@
 use Rattle.std.proofs.Common.{◌≡◌}
 use std.HLevel.{prop→path_p}
-use Rattle.heap.specs.Bag.{InOrder}
-use Rattle.heap.proofs.Bags.{in-order-prop}
+use Rattle.bag.specs.Bag.{InOrder}
+use Rattle.bag.proofs.Bags.{in-order-prop}
 use Rattle.queue.specs.Entries.{entry_before}
 use Rattle.chain.specs.Chains.{chain_of}
 use Rattle.chain.specs.declared.entry_chain.EntryChain.{EntryChain}

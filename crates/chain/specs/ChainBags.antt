@@ -1,8 +1,8 @@
 use Rattle.std.specs.Prelude.{◌≡◌, ℕ, zero, suc, ◌<◌, ◌≤◌, false, List, length, slice_index_or, refl}
 use Rattle.std.proofs.Common.{sym, ap, ◌∙◌, subst}
 use Rattle.std.proofs.lemmas.List.{length-map}
-use Rattle.heap.specs.Bag.{InOrder}
-use Rattle.heap.proofs.Bags.{in-order-by-places}
+use Rattle.bag.specs.Bag.{InOrder}
+use Rattle.bag.proofs.Bags.{in-order-by-places}
 use Rattle.queue.specs.declared.entry.Entry.{Entry}
 use Rattle.queue.specs.Entries.{entry_before}
 use Rattle.queue.specs.EntryBags.{entries-ordered}

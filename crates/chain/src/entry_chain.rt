@@ -1,9 +1,9 @@
 ghost use Rattle.std.specs.Prelude.{◌≡◌, [], length};
-ghost use Rattle.heap.specs.Bag.{InOrder};
-ghost use Rattle.heap.proofs.Bags.{in-order-prop};
+ghost use Rattle.bag.specs.Bag.{InOrder};
+ghost use Rattle.bag.proofs.Bags.{in-order-prop};
 ghost use Rattle.queue.specs.Entries.{entry_before};
 ghost use Rattle.chain.specs.Cells.{StrungUp};
-ghost use Rattle.chain.specs.Chains.{cells_of, chain_of};
+ghost use Rattle.chain.specs.Chains.{cells_of, chain_of, CellsKept};
 ghost use Rattle.chain.specs.ChainBags.{chain-bounded};
 
 use crate::cell::Cell;
@@ -34,6 +34,8 @@ impl OpenList for EntryChain<'_> {
     ghost bag = { λ s. chain_of s.links };
 
     ghost limit = { λ s. length (cells_of s.links) };
+
+    ghost kept = { λ a b. CellsKept a.links b.links };
 
     ghost ordered = { λ s. s.order };
 

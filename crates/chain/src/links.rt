@@ -1,10 +1,10 @@
 ghost use Rattle.std.specs.Prelude.{◌≡◌, false, [], length, if◌then◌else◌, None, nat_lt};
-ghost use Rattle.heap.specs.Bag.{insert, first, rest};
+ghost use Rattle.bag.specs.Bag.{insert, first, rest};
 ghost use Rattle.queue.specs.Entries.{entry_before};
 ghost use Rattle.chain.specs.Cells.{StrungUp, Apart};
 
 use crate::cell::Cell;
-use heap::order::TotalOrder;
+use bag::order::TotalOrder;
 use queue::entry::Entry;
 
 // An ordered chain in lent cells: `count` cells from `head` on hold the entries, the others are chained
@@ -36,7 +36,7 @@ fn string_up(cells: &mut [Cell])
 }
 
 impl Links<'_> {
-    ghost use Rattle.chain.specs.Chains.{cells_of, chain_of, Placed};
+    ghost use Rattle.chain.specs.Chains.{cells_of, chain_of, CellsKept, Placed};
 
     // No entries, in cells that hold anything: all are free, each behind the one before it in memory.
     pub(crate) fn start(cells: &mut [Cell]) -> Links<'_>
@@ -78,6 +78,7 @@ impl Links<'_> {
             then insert entry_before e (chain_of self.old)
             else chain_of self.old) }
         ensures room { length (cells_of self.new) ≡ length (cells_of self.old) }
+        ensures kept { CellsKept self.old self.new }
         ensures refused { result ≡ false → self.new ≡ self.old }
     {
         if self.count == self.cells.len() {
@@ -115,6 +116,7 @@ impl Links<'_> {
         ensures is { result ≡ first (chain_of self.old) }
         ensures chain { chain_of self.new ≡ rest (chain_of self.old) }
         ensures room { length (cells_of self.new) ≡ length (cells_of self.old) }
+        ensures kept { CellsKept self.old self.new }
         ensures empty { result ≡ None → self.new ≡ self.old }
     {
         let entry = self.look()?;

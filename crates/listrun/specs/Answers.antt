@@ -1,6 +1,6 @@
 use Rattle.std.specs.Prelude.{ℕ, if◌then◌else◌, List, ◌++◌, length, codes, nat_lt}
 use Rattle.std.specs.Option.{option_map_or}
-use Rattle.heap.specs.Bag.{insert, first, rest}
+use Rattle.bag.specs.Bag.{insert, first, rest}
 use Rattle.queue.specs.declared.entry.Entry.{Entry}
 use Rattle.queue.specs.Entries.{entry_before, entry_text}
 use Rattle.listrun.specs.declared.answer.Answer.{Answer}

@@ -3,11 +3,11 @@ use Rattle.std.specs.List.Sorted.{IsPermutation}
 use Rattle.std.specs.List.{AllByRecursion}
 use Rattle.std.proofs.ByRecursion.{All-weaker}
 use Rattle.std.proofs.lemmas.List.Sorted.{IsPermutation-refl}
-use Rattle.heap.specs.Order.{Total}
-use Rattle.heap.specs.Bag.{insert, first, rest, InOrder}
-use Rattle.heap.specs.Meaning.{slots_of, bag_of}
-use Rattle.heap.specs.declared.heap.Heap.{Heap}
-use Rattle.heap.proofs.Bags.{length-bag, insert-adds, first-least}
+use Rattle.bag.specs.Order.{Total}
+use Rattle.bag.specs.Bag.{insert, first, rest, InOrder}
+use Rattle.queue.specs.Heaps.{slots_of, bag_of}
+use Rattle.queue.specs.declared.heap.Heap.{Heap}
+use Rattle.bag.proofs.Bags.{length-bag, insert-adds, first-least}
 use Rattle.queue.specs.Bags.{Shows, Takes}
 
 module _ {X : Type 0} (before : X → X → Bool) where

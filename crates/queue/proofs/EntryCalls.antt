@@ -1,6 +1,6 @@
 use Rattle.std.proofs.Common.{◌≡◌, false, List, Option}
-use Rattle.heap.specs.Bag.{first, rest, InOrder}
-use Rattle.heap.proofs.Pairs.{not-below}
+use Rattle.bag.specs.Bag.{first, rest, InOrder}
+use Rattle.bag.proofs.Pairs.{not-below}
 use Rattle.queue.specs.Bags.{Shows, Takes}
 use Rattle.queue.specs.Entries.{entry_before, EntryLeads}
 use Rattle.queue.specs.EntryBags.{entries-ordered}

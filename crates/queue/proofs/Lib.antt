@@ -1,3 +1,5 @@
+mod Sifting
+mod Heaping
 pub mod Calls
 pub mod EntryCalls
 pub mod ReadyCalls

@@ -1,6 +1,6 @@
 use Rattle.std.proofs.Common.{◌≡◌, List, Option}
-use Rattle.heap.specs.Bag.{first, rest, InOrder}
-use Rattle.heap.proofs.Pairs.{not-below}
+use Rattle.bag.specs.Bag.{first, rest, InOrder}
+use Rattle.bag.proofs.Pairs.{not-below}
 use Rattle.queue.specs.Bags.{Takes}
 use Rattle.queue.specs.ReadyTasks.{ready_before, ReadyLeads}
 use Rattle.queue.specs.ReadyOrder.{tasks-ordered}

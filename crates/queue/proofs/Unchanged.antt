@@ -1,7 +1,7 @@
 use Rattle.std.proofs.Common.{◌≡◌}
 use std.HLevel.{prop→path_p}
 use denote.Struct.Props.{props}
-use Rattle.heap.specs.Meaning.{Heaped}
+use Rattle.queue.specs.Heaps.{Heaped}
 use Rattle.queue.specs.Entries.{entry_before}
 use Rattle.queue.specs.ReadyTasks.{ready_before}
 use Rattle.queue.specs.declared.entry_heap.EntryHeap.{EntryHeap}

@@ -1,5 +1,5 @@
 use Rattle.std.specs.Prelude.{ℕ, Bool, List, ◌++◌, codes, decimal}
-use Rattle.heap.specs.Pairs.{below, AtMost}
+use Rattle.bag.specs.Pairs.{below, AtMost}
 use Rattle.queue.specs.declared.entry.Entry.{Entry}
 
 -- the lesser bound comes first, among equals the greater node number

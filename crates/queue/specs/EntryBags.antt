@@ -1,9 +1,9 @@
 use Rattle.std.specs.Prelude.{ℕ, ◌≤◌, List, length, take}
 use Rattle.std.proofs.Common.{sym, subst}
-use Rattle.heap.specs.Order.{Total}
-use Rattle.heap.specs.Bag.{sorted, InOrder}
-use Rattle.heap.proofs.Bags.{sorted-in-order, length-bag}
-use Rattle.heap.proofs.Pairs.{ascending}
+use Rattle.bag.specs.Order.{Total}
+use Rattle.bag.specs.Bag.{sorted, InOrder}
+use Rattle.bag.proofs.Bags.{sorted-in-order, length-bag}
+use Rattle.bag.proofs.Pairs.{ascending}
 use Rattle.queue.specs.declared.entry.Entry.{Entry}
 use Rattle.queue.specs.Entries.{entry_before}
 

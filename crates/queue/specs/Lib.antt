@@ -1,3 +1,5 @@
+pub mod Slots
+pub mod Heaps
 pub mod Bags
 pub mod Entries
 pub mod EntryBags

@@ -1,5 +1,5 @@
 use Rattle.std.specs.Prelude.{ℕ, List, length}
-use Rattle.heap.specs.Meaning.{slots_of, bag_of}
+use Rattle.queue.specs.Heaps.{slots_of, bag_of}
 use Rattle.queue.specs.declared.ready.ReadyTask.{ReadyTask}
 use Rattle.queue.specs.declared.ready.ready_heap.ReadyHeap.{ReadyHeap}
 use Rattle.queue.specs.ReadyTasks.{ready_before}

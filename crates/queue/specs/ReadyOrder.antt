@@ -1,5 +1,5 @@
-use Rattle.heap.specs.Order.{Total}
-use Rattle.heap.proofs.Pairs.{ascending, reversed}
+use Rattle.bag.specs.Order.{Total}
+use Rattle.bag.proofs.Pairs.{ascending, reversed}
 use Rattle.queue.specs.declared.ready.ReadyTask.{ReadyTask}
 use Rattle.queue.specs.ReadyTasks.{ready_before}
 

@@ -1,5 +1,5 @@
 use Rattle.std.specs.Prelude.{Bool}
-use Rattle.heap.specs.Pairs.{below, AtMost}
+use Rattle.bag.specs.Pairs.{below, AtMost}
 use Rattle.queue.specs.declared.ready.ReadyTask.{ReadyTask}
 
 -- the greater bottom level comes first, among equals the lower task number

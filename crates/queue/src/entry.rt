@@ -1,4 +1,4 @@
-use heap::order::TotalOrder;
+use bag::order::TotalOrder;
 use std::cmp::Reverse;
 use std::fmt;
 
@@ -16,11 +16,7 @@ impl TotalOrder for Entry {
 
     ghost before = { entry_before };
 
-    ghost asymmetric = { entries-ordered.asymmetric };
-
-    ghost transitive = { entries-ordered.transitive };
-
-    ghost tied = { entries-ordered.tied };
+    ghost total = { entries-ordered };
 
     fn comes_before(&self, other: &Entry) -> bool {
         (self.bound, Reverse(self.node)) < (other.bound, Reverse(other.node))

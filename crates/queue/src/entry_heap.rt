@@ -1,11 +1,11 @@
 ghost use Rattle.std.specs.Prelude.{◌≡◌, [], length};
-ghost use Rattle.heap.specs.Meaning.{slots_of, bag_of, Heaped};
+ghost use Rattle.queue.specs.Heaps.{slots_of, bag_of, Heaped, SlotsKept};
 ghost use Rattle.queue.specs.Entries.{entry_before};
 ghost use Rattle.queue.specs.EntryBags.{slots-ordered, slots-bounded};
 
 use crate::entry::Entry;
+use crate::heap::Heap;
 use crate::open_list::OpenList;
-use heap::heap::Heap;
 
 // An open list as a heap in lent slots. That the slots are in heap order is part of the type.
 // A rule of the project: each kind of entry has a heap type of its own, as `ReadyHeap` for tasks.
@@ -30,6 +30,8 @@ impl OpenList for EntryHeap<'_> {
     ghost bag = { λ s. bag_of entry_before s.heap };
 
     ghost limit = { λ s. length (slots_of s.heap) };
+
+    ghost kept = { λ a b. SlotsKept a.heap b.heap };
 
     ghost ordered = { λ s. slots-ordered (slots_of s.heap) s.heap.count };
 

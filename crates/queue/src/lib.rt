@@ -2,5 +2,7 @@
 
 pub mod entry;
 pub mod entry_heap;
+mod heap;
 pub mod open_list;
 pub mod ready;
+mod sift;

@@ -1,6 +1,6 @@
 ghost use Rattle.std.specs.Prelude.{◌≡◌, ℕ, ◌≤◌, true, false, List, ◌∷◌, length, if◌then◌else◌, None, nat_lt};
 ghost use Rattle.std.specs.List.Sorted.{IsPermutation};
-ghost use Rattle.heap.specs.Bag.{insert, first, rest, InOrder};
+ghost use Rattle.bag.specs.Bag.{insert, first, rest, InOrder};
 ghost use Rattle.queue.specs.declared.entry.Entry.{Entry};
 ghost use Rattle.queue.specs.Bags.{Shows, Takes};
 ghost use Rattle.queue.specs.Entries.{entry_before, EntryLeads};
@@ -15,6 +15,10 @@ pub trait OpenList {
 
     ghost limit: { Self → ℕ };
 
+    // What a put or a take leaves of the lent memory, by the states before and after. Which places the entries
+    // have there is up to the list.
+    ghost kept: { Self → Self → Type 0 };
+
     // The list that tells the bag is in order.
     ghost ordered: { (s : Self) → InOrder entry_before (bag s) };
 
@@ -27,6 +31,7 @@ pub trait OpenList {
             then insert entry_before e (bag self.old)
             else bag self.old) }
         ensures same_limit { limit self.new ≡ limit self.old }
+        ensures kept { kept self.old self.new }
         ensures adds { result ≡ true → IsPermutation (e ∷ bag self.old) (bag self.new) }
         ensures refused { result ≡ false → self.new ≡ self.old };
 
@@ -41,6 +46,7 @@ pub trait OpenList {
         ensures is { result ≡ first (bag self.old) }
         ensures after { bag self.new ≡ rest (bag self.old) }
         ensures same_limit { limit self.new ≡ limit self.old }
+        ensures kept { kept self.old self.new }
         ensures takes { Takes EntryLeads (bag self.old) result (bag self.new) }
         ensures empty { result ≡ None → self.new ≡ self.old };
 

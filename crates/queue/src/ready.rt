@@ -1,4 +1,4 @@
-use heap::order::TotalOrder;
+use bag::order::TotalOrder;
 use std::cmp::Reverse;
 
 pub mod ready_heap;
@@ -17,11 +17,7 @@ impl TotalOrder for ReadyTask {
 
     ghost before = { ready_before };
 
-    ghost asymmetric = { tasks-ordered.asymmetric };
-
-    ghost transitive = { tasks-ordered.transitive };
-
-    ghost tied = { tasks-ordered.tied };
+    ghost total = { tasks-ordered };
 
     fn comes_before(&self, other: &ReadyTask) -> bool {
         (Reverse(self.level), self.task) < (Reverse(other.level), other.task)

@@ -1,7 +1,7 @@
 use Rattle.std.proofs.Common.{◌≡◌, ℕ, zero, suc, ◌+◌, ◌<◌, ◌≤◌, Bool, true, false, cond, ◌&&◌, ◌||◌, eqb, ◌≢◌, ◌⊎◌, List, sym, refl, ap, ◌∙◌, inl, inr, add-one, arith}
 use native.Mathlib.Decide.{ℕ_discrete}
 use Rattle.std.proofs.lemmas.Bool.{eq-eqb, eqb-true, and_parts, and_from, or_right, or_cases}
-use Rattle.heap.specs.Bag.{insert}
+use Rattle.bag.specs.Bag.{insert}
 use Rattle.model.specs.Range.{any, put}
 use Rattle.model.specs.Graph.{Graph, Lawful}
 use Rattle.model.specs.Partial.{Partial, Free, is_free, append}

@@ -3,9 +3,9 @@ use native.Mathlib.Decide.{ℕ_discrete}
 use Rattle.std.specs.List.{AllByRecursion}
 use Rattle.std.specs.Option.{option_map}
 use Rattle.std.proofs.ByRecursion.{all_shuffled}
-use Rattle.heap.specs.Bag.{insert, first, rest}
-use Rattle.heap.proofs.Bags.{length-insert, insert-adds, insert_comm, front}
-use Rattle.heap.proofs.Pairs.{from-at-most}
+use Rattle.bag.specs.Bag.{insert, first, rest}
+use Rattle.bag.proofs.Bags.{length-insert, insert-adds, insert_comm, front}
+use Rattle.bag.proofs.Pairs.{from-at-most}
 use Rattle.model.specs.Range.{put}
 use Rattle.model.specs.Graph.{Graph, level}
 use Rattle.model.specs.Partial.{Partial, Unfinished, Free, is_free}

@@ -1,5 +1,5 @@
 use Rattle.std.specs.Prelude.{ℕ, zero, suc, Bool, if◌then◌else◌, ◌&&◌, List, [], ◌==◌}
-use Rattle.heap.specs.Bag.{insert}
+use Rattle.bag.specs.Bag.{insert}
 use Rattle.model.specs.Graph.{Graph, level}
 use Rattle.model.specs.Partial.{Partial, is_free}
 use Rattle.queue.specs.declared.ready.ReadyTask.{ReadyTask}

@@ -1,6 +1,6 @@
 ghost use Rattle.std.specs.Prelude.{◌≡◌, ◌<◌, ◌≤◌, [], length};
 ghost use Rattle.std.specs.Option.{option_map};
-ghost use Rattle.heap.specs.Bag.{insert, first, rest};
+ghost use Rattle.bag.specs.Bag.{insert, first, rest};
 ghost use Rattle.loader.specs.Meaning.{the_graph};
 ghost use Rattle.partial.specs.Meaning.{the_partial};
 ghost use Rattle.queue.specs.ReadyTasks.{ready_before};

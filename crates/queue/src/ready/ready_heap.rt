@@ -1,13 +1,12 @@
-ghost use Rattle.std.specs.Prelude.{◌≡◌, ◌+◌, true, false, [], ◌∷◌, length, if◌then◌else◌, None, nat_lt, slice_set};
+ghost use Rattle.std.specs.Prelude.{◌≡◌, true, false, [], ◌∷◌, length, if◌then◌else◌, None, nat_lt};
 ghost use Rattle.std.specs.List.Sorted.{IsPermutation};
-ghost use Rattle.heap.specs.Bag.{insert, first, rest};
-ghost use Rattle.heap.specs.Meaning.{slots_of, Heaped};
-ghost use Rattle.heap.specs.Slots.{Rearranged};
+ghost use Rattle.bag.specs.Bag.{insert, first, rest};
+ghost use Rattle.queue.specs.Heaps.{slots_of, Heaped, SlotsKept};
 ghost use Rattle.queue.specs.Bags.{Takes};
 ghost use Rattle.queue.specs.ReadyTasks.{ready_before, ReadyLeads};
 
+use crate::heap::Heap;
 use crate::ready::ReadyTask;
-use heap::heap::Heap;
 
 // Tasks that wait to be placed, as a heap in lent slots. That the slots are in heap order is part of the
 // type.
@@ -37,9 +36,7 @@ impl ReadyHeap<'_> {
             ≡ (if result then insert ready_before t (ready_bag self.old) else ready_bag self.old) }
         ensures same_limit { ready_room self.new ≡ ready_room self.old }
         ensures adds { result ≡ true → IsPermutation (t ∷ ready_bag self.old) (ready_bag self.new) }
-        ensures slots { result ≡ true → Rearranged (self.old.heap.count + 1)
-            (slice_set (slots_of self.old.heap) self.old.heap.count t)
-            (slots_of self.new.heap) }
+        ensures kept { SlotsKept self.old.heap self.new.heap }
         ensures refused { result ≡ false → self.new ≡ self.old }
     {
         self.heap.push(t)
@@ -51,7 +48,7 @@ impl ReadyHeap<'_> {
         ensures after { ready_bag self.new ≡ rest (ready_bag self.old) }
         ensures same_limit { ready_room self.new ≡ ready_room self.old }
         ensures takes { Takes ReadyLeads (ready_bag self.old) result (ready_bag self.new) }
-        ensures slots { Rearranged self.old.heap.count (slots_of self.old.heap) (slots_of self.new.heap) }
+        ensures kept { SlotsKept self.old.heap self.new.heap }
         ensures empty { result ≡ None → self.new ≡ self.old }
     {
         self.heap.pop()

@@ -1,5 +1,5 @@
 use Rattle.std.proofs.Common.{ℕ, nat_lt, length, sym, ap, ◌∙◌}
-use Rattle.heap.proofs.Bags.{put-in-order}
+use Rattle.bag.proofs.Bags.{put-in-order}
 use Rattle.queue.specs.Entries.{entry_before}
 use Rattle.queue.specs.EntryBags.{entries-ordered}
 use Rattle.queue.proofs.Calls.{adds}

@@ -1,4 +1,4 @@
-use Rattle.heap.specs.Meaning.{slots_of, bag_of}
+use Rattle.queue.specs.Heaps.{slots_of, bag_of}
 use Rattle.queue.specs.Entries.{entry_before}
 use Rattle.queue.specs.EntryBags.{slots-ordered}
 use Rattle.queue.proofs.EntryCalls.{shows}

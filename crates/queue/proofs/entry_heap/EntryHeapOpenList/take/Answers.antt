@@ -1,6 +1,6 @@
 use Rattle.std.proofs.Common.{take}
-use Rattle.heap.specs.Meaning.{slots_of, bag_of}
-use Rattle.heap.proofs.Bags.{sorted-in-order}
+use Rattle.queue.specs.Heaps.{slots_of, bag_of}
+use Rattle.bag.proofs.Bags.{sorted-in-order}
 use Rattle.queue.specs.Entries.{entry_before}
 use Rattle.queue.specs.EntryBags.{entries-ordered}
 use Rattle.queue.proofs.EntryCalls.{takes}

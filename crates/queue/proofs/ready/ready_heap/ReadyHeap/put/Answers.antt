@@ -1,4 +1,4 @@
-use Rattle.heap.specs.Meaning.{bag_of}
+use Rattle.queue.specs.Heaps.{bag_of}
 use Rattle.queue.specs.ReadyTasks.{ready_before}
 use Rattle.queue.proofs.Calls.{adds, has_room}
 use Rattle.queue.proofs.Unchanged.{same_tasks}

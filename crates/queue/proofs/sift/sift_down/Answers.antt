@@ -1,12 +1,10 @@
 use Rattle.std.proofs.Common.{arith}
-use Rattle.heap.specs.Order.{Total}
-use Rattle.heap.proofs.Sifting.{sinks, arranged-more}
-use Rattle.heap.proofs.sift.sift_down.Goals as goal
+use Rattle.queue.proofs.Sifting.{sinks, arranged-more}
+use Rattle.queue.proofs.sift.sift_down.Goals as goal
 
 pub loop-child-preserved : goal.loop-child-preserved
 loop-child-preserved g c =
-    let t = g.met.T.TotalOrder in
-    let o : Total g.T.TotalOrder.before = record { asymmetric = t.asymmetric; transitive = t.transitive; tied = t.tied } in
+    let o = g.met.T.TotalOrder.total in
     let l = c.loop-child in
     let n = c.args.n in
     let child = c.in-Some.child in

@@ -1,8 +1,8 @@
 use Rattle.std.proofs.Common.{◌≡◌, ℕ, ◌<◌, Bool, true, false, ◌⊎◌, sym, inl, inr, arith}
 use native.Mathlib.Decide.{ℕ_discrete, dec_lt}
 use Rattle.std.proofs.lemmas.Bool.{lt-ltb, le-ltb, eq-eqb, ne_eqb}
-use Rattle.heap.specs.Order.{Total}
-use Rattle.heap.specs.Pairs.{below, AtMost}
+use Rattle.bag.specs.Order.{Total}
+use Rattle.bag.specs.Pairs.{below, AtMost}
 use borrow.Author.Clash.{clash}
 
 module _ (a b c d : ℕ) where

@@ -3,9 +3,9 @@ use native.Mathlib.Decide.{ℕ_discrete}
 use lib.Seq.{take-set-lt}
 use Rattle.std.proofs.lemmas.List.Sorted.{IsPermutation-refl, IsPermutation-trans, IsPermutation-swap}
 use Rattle.std.proofs.lemmas.List.Edits.{swap_is}
-use Rattle.heap.specs.Order.{Total}
-use Rattle.heap.specs.Slots.{parent, NotBefore, HeapOrder, LeastChild, Rearranged}
-use Rattle.heap.proofs.Bags.{head, irreflexive}
+use Rattle.bag.specs.Order.{Total}
+use Rattle.queue.specs.Slots.{parent, NotBefore, HeapOrder, LeastChild, Rearranged}
+use Rattle.bag.proofs.Bags.{head, irreflexive}
 
 -- what `swap(i, j)` ensures, by places
 abbrev pub Swapped : {X : Type 0} → List X → List X → ℕ → ℕ → Type 0

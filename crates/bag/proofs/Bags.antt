@@ -7,12 +7,17 @@ use Rattle.std.proofs.Props.{props}
 use Rattle.std.proofs.ByRecursion.{All-weaker, All-from_get_or, All-get_or, all_shuffled}
 use Rattle.std.proofs.lemmas.List.Edits.{swap_is}
 use Rattle.std.proofs.lemmas.List.Sorted.{IsPermutation-refl, IsPermutation-trans, IsPermutation-cons, IsPermutation-swap, IsPermutation-keeps}
-use Rattle.heap.specs.Order.{Total}
-use Rattle.heap.specs.Bag.{insert, sorted, first, rest, InOrder}
+use Rattle.bag.specs.Order.{Total}
+use Rattle.bag.specs.Bag.{insert, sorted, first, rest, InOrder}
 
 pub head : {X : Type 0} (l : List X) → 0 < length l → X
 head [] h = absurd (not-suc-le-zero h)
 head (x ∷ xs) h = x
+
+-- a bag with a first entry has entries
+pub first-some : {X : Type 0} (l : List X) (x : X) → Some x ≡ first l → 0 < length l
+first-some [] x e = cc
+first-some (y ∷ ys) x e = omega arith
 
 -- that a list is in order is a fact with one proof
 pub in-order-prop : {X : Type 0} (before : X → X → Bool) (l : List X) → IsProp (InOrder before l)

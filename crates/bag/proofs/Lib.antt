@@ -1,4 +1,2 @@
 pub mod Bags
 pub mod Pairs
-mod Sifting
-mod Heaping

@@ -1,7 +1,7 @@
 ghost use Rattle.std.specs.Prelude.{◌≡◌, ◌+◌, ◌*◌, ◌^◌, ◌<◌, ◌≤◌, length, slice_index_or, MatchOption};
-ghost use Rattle.heap.specs.Slots.{parent, HeapOrder, BelowTop, Rearranged, LeastChild};
+ghost use Rattle.queue.specs.Slots.{parent, HeapOrder, BelowTop, Rearranged, LeastChild};
 
-use crate::order::TotalOrder;
+use bag::order::TotalOrder;
 
 // Whether the entry of slot a comes before that of slot b.
 fn is_before<T: TotalOrder>(s: &[T], a: usize, b: usize) -> bool

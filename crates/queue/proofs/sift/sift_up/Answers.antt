@@ -1,12 +1,10 @@
 use Rattle.std.proofs.Common.{◌+◌, arith}
-use Rattle.heap.specs.Order.{Total}
-use Rattle.heap.proofs.Sifting.{rises_to, arranged-more}
-use Rattle.heap.proofs.sift.sift_up.Goals as goal
+use Rattle.queue.proofs.Sifting.{rises_to, arranged-more}
+use Rattle.queue.proofs.sift.sift_up.Goals as goal
 
 pub loop-above-preserved : goal.loop-above-preserved
 loop-above-preserved g c =
-    let t = g.met.T.TotalOrder in
-    let o : Total g.T.TotalOrder.before = record { asymmetric = t.asymmetric; transitive = t.transitive; tied = t.tied } in
+    let o = g.met.T.TotalOrder.total in
     let l = c.loop-above in
     let n = c.args.last + 1 in
     let above = c.in-Some.above in

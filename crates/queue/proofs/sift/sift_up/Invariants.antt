@@ -1,7 +1,7 @@
 use Rattle.std.proofs.Common.{◌+◌, ◌≤◌}
-use Rattle.heap.specs.Slots.{Rearranged}
-use Rattle.heap.proofs.Sifting.{Rising}
-use Rattle.heap.proofs.sift.sift_up.Given as goal
+use Rattle.queue.specs.Slots.{Rearranged}
+use Rattle.queue.proofs.Sifting.{Rising}
+use Rattle.queue.proofs.sift.sift_up.Given as goal
 
 abbrev pub invariant-loop-above : goal.invariant-loop-above
 invariant-loop-above g l = (l.«at» ≤ l.last) × Rising g.T.TotalOrder.before l.s l.«at» (l.last + 1) × Rearranged (l.last + 1) l.initial.s l.s

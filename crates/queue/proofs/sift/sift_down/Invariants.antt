@@ -1,7 +1,7 @@
 use Rattle.std.proofs.Common.{◌-◌}
-use Rattle.heap.specs.Slots.{Rearranged}
-use Rattle.heap.proofs.Sifting.{Sinking}
-use Rattle.heap.proofs.sift.sift_down.Given as goal
+use Rattle.queue.specs.Slots.{Rearranged}
+use Rattle.queue.proofs.Sifting.{Sinking}
+use Rattle.queue.proofs.sift.sift_down.Given as goal
 
 abbrev pub invariant-loop-child : goal.invariant-loop-child
 invariant-loop-child g l = Sinking g.T.TotalOrder.before l.s l.«at» l.n × Rearranged l.n l.initial.s l.s

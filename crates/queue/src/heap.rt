@@ -1,9 +1,8 @@
-ghost use Rattle.std.specs.Prelude.{◌≡◌, ◌+◌, ◌≤◌, true, false, length, take, if◌then◌else◌, None, ◌==◌, nat_lt, slice_set};
-ghost use Rattle.heap.specs.Bag.{insert, first, rest};
-ghost use Rattle.heap.specs.Slots.{Rearranged};
+ghost use Rattle.std.specs.Prelude.{◌≡◌, ◌≤◌, false, length, take, if◌then◌else◌, None, nat_lt};
+ghost use Rattle.bag.specs.Bag.{insert, first, rest};
 
-use crate::order::TotalOrder;
 use crate::sift::{sift_down, sift_up};
+use bag::order::TotalOrder;
 
 // A binary heap in lent slots: the first `count` slots hold its entries.
 // A rule of the project: memory below the programs is lent and fixed, so the slots in use are counted.
@@ -16,10 +15,10 @@ pub struct Heap<'a, T> {
 }
 
 impl<T: TotalOrder> Heap<'_, T> {
-    ghost use Rattle.heap.specs.Meaning.{slots_of, bag_of, Heaped};
+    ghost use Rattle.queue.specs.Heaps.{slots_of, bag_of, Heaped, SlotsKept};
 
     // An empty heap in slots that hold anything.
-    pub fn start(slots: &mut [T]) -> Heap<'_, T>
+    pub(crate) fn start(slots: &mut [T]) -> Heap<'_, T>
         ensures slots { slots_of result ≡ slots.old }
         ensures empty { result.count ≡ 0 }
         ensures heaped { Heaped T.before result }
@@ -35,37 +34,28 @@ impl<T: TotalOrder> Heap<'_, T> {
     }
 
     // How many slots are in use.
-    pub fn len(&self) -> usize
+    pub(crate) fn len(&self) -> usize
         ensures { result ≡ self.now.count }
     {
         self.entries().len()
     }
 
-    // Whether no slot is in use.
-    pub fn is_empty(&self) -> bool
-        ensures { result ≡ (self.now.count == 0) }
-    {
-        self.entries().is_empty()
-    }
-
     // How many slots there are.
-    pub fn capacity(&self) -> usize
+    pub(crate) fn capacity(&self) -> usize
         ensures { result ≡ length (slots_of self.now) }
     {
         self.slots.len()
     }
 
     // Adds an entry; false, and nothing is changed, where all slots are in use.
-    pub fn push(&mut self, e: T) -> bool
+    pub(crate) fn push(&mut self, e: T) -> bool
         requires { Heaped T.before self.old }
         ensures is { result ≡ nat_lt self.old.count (length (slots_of self.old)) }
         ensures bag { bag_of T.before self.new ≡ (if result
             then insert T.before e (bag_of T.before self.old)
             else bag_of T.before self.old) }
         ensures heaped { Heaped T.before self.new }
-        ensures slots { result ≡ true → Rearranged (self.old.count + 1)
-            (slice_set (slots_of self.old) self.old.count e)
-            (slots_of self.new) }
+        ensures kept { SlotsKept self.old self.new }
         ensures room { length (slots_of self.new) ≡ length (slots_of self.old) }
         ensures refused { result ≡ false → self.new ≡ self.old }
         ensures lender { self.new.slots.ghost_name ≡ self.old.slots.ghost_name }
@@ -81,7 +71,7 @@ impl<T: TotalOrder> Heap<'_, T> {
     }
 
     // The first entry in order.
-    pub fn peek(&self) -> Option<T>
+    pub(crate) fn peek(&self) -> Option<T>
         requires { Heaped T.before self.now }
         ensures { result ≡ first (bag_of T.before self.now) }
     {
@@ -89,12 +79,12 @@ impl<T: TotalOrder> Heap<'_, T> {
     }
 
     // Takes the first entry in order; None, and nothing is changed, where there is none.
-    pub fn pop(&mut self) -> Option<T>
+    pub(crate) fn pop(&mut self) -> Option<T>
         requires { Heaped T.before self.old }
         ensures is { result ≡ first (bag_of T.before self.old) }
         ensures bag { bag_of T.before self.new ≡ rest (bag_of T.before self.old) }
         ensures heaped { Heaped T.before self.new }
-        ensures slots { Rearranged self.old.count (slots_of self.old) (slots_of self.new) }
+        ensures kept { SlotsKept self.old self.new }
         ensures room { length (slots_of self.new) ≡ length (slots_of self.old) }
         ensures empty { result ≡ None → self.new ≡ self.old }
         ensures lender { self.new.slots.ghost_name ≡ self.old.slots.ghost_name }

@@ -1,5 +1,3 @@
 #![tactic(auto)]
 
-pub mod heap;
 pub mod order;
-mod sift;

@@ -1,13 +1,13 @@
-use Rattle.std.proofs.Common.{◌≡◌, ℕ, zero, suc, ◌+◌, ◌<◌, ◌≤◌, Bool, false, List, [], ◌∷◌, ◌++◌, length, get_or, take, drop, set, Some, sym, refl, ap, ◌∙◌, subst, add-one, arith, length-append, take-append-drop, length-take-le, get_or-drop, get_or-take, take-suc, drop-drop, take-suc-set}
+use Rattle.std.proofs.Common.{◌≡◌, ℕ, suc, ◌+◌, ◌<◌, ◌≤◌, Bool, false, List, [], ◌∷◌, ◌++◌, length, get_or, take, drop, set, Some, sym, refl, ap, ◌∙◌, subst, add-one, arith, length-append, take-append-drop, length-take-le, get_or-drop, get_or-take, take-suc, take-suc-set, get_or-set_other, ◌-◌}
 use Rattle.std.specs.List.Sorted.{IsPermutation}
 use Rattle.std.specs.List.{AllByRecursion, slice_get}
 use Rattle.std.proofs.ByRecursion.{All-from_get_or}
-use Rattle.std.proofs.lemmas.List.Sorted.{IsPermutation-refl, IsPermutation-sym, IsPermutation-trans, IsPermutation-cons, IsPermutation-to_front, length_permutation}
-use Rattle.heap.specs.Order.{Total}
-use Rattle.heap.specs.Bag.{insert, sorted, first, rest}
-use Rattle.heap.specs.Slots.{HeapOrder, Rearranged}
-use Rattle.heap.proofs.Bags.{head, sorted-shuffled, sorted-least}
-use Rattle.heap.proofs.Sifting.{Swapped, arranged-none, arranged-more, top-first}
+use Rattle.std.proofs.lemmas.List.Sorted.{IsPermutation-refl, IsPermutation-trans, IsPermutation-cons, IsPermutation-to_front, length_permutation}
+use Rattle.bag.specs.Order.{Total}
+use Rattle.bag.specs.Bag.{insert, sorted, first, rest}
+use Rattle.queue.specs.Slots.{HeapOrder, Rearranged}
+use Rattle.bag.proofs.Bags.{head, first-some, length-bag, sorted-shuffled, sorted-least}
+use Rattle.queue.proofs.Sifting.{Swapped, arranged-none, arranged-more, top-first}
 
 module _ {X : Type 0} where
   pub arranged-length : (n : ℕ) (xs ys : List X) → Rearranged n xs ys → length ys ≡ length xs
@@ -19,30 +19,17 @@ module _ {X : Type 0} where
   same-slot : (n : ℕ) (xs ys : List X) (k : ℕ) (d : X) → drop n ys ≡ drop n xs → get_or ys (n + k) d ≡ get_or xs (n + k) d
   same-slot n xs ys k d e = sym (get_or-drop n ys k d) ∙ ap (λ (l : List X). get_or l k d) e ∙ get_or-drop n xs k d
 
-  snoc-shuffled : (a : X) (xs ys : List X) → IsPermutation xs ys → IsPermutation (xs ++ a ∷ []) (ys ++ a ∷ [])
-  snoc-shuffled a xs ys s = IsPermutation-trans (xs ++ a ∷ []) (a ∷ xs) (ys ++ a ∷ []) (IsPermutation-to_front xs a)
-      (IsPermutation-trans (a ∷ xs) (a ∷ ys) (ys ++ a ∷ []) (IsPermutation-cons a xs ys s) (IsPermutation-sym (ys ++ a ∷ []) (a ∷ ys) (IsPermutation-to_front ys a)))
+  -- the slots behind those that were arranged
+  behind : (n : ℕ) (xs ys : List X) → Rearranged n xs ys → (k : ℕ) (d : X) → n ≤ k → get_or ys k d ≡ get_or xs k d
+  behind n xs ys a k d h =
+      let e : n + (k - n) ≡ k = omega arith in
+      subst (λ (m : ℕ). get_or ys m d ≡ get_or xs m d) e (same-slot n xs ys (k - n) d a.others)
 
-  -- a slot that stays counts as arranged
-  widened : (m : ℕ) (xs ys : List X) (d : X) → m < length xs → Rearranged m xs ys → Rearranged (suc m) xs ys
-  widened m xs ys d h a =
-      let len = arranged-length m xs ys a in
-      let last : get_or ys m d ≡ get_or xs m d = ap (λ (k : ℕ). get_or ys k d) (let e : m ≡ m + 0 = omega arith in e) ∙ same-slot m xs ys 0 d a.others ∙ ap (λ (k : ℕ). get_or xs k d) (let e : m + 0 ≡ m = omega arith in e) in
-      let cut : take (suc m) ys ≡ take m ys ++ get_or xs m d ∷ [] = take-suc ys m d (omega arith) ∙ ap (λ (x : X). take m ys ++ x ∷ []) last in
-      let more : suc m ≡ m + 1 = omega arith in
-      record {
-        entries = subst (λ (l : List X). IsPermutation l (take (suc m) ys)) (sym (take-suc xs m d h)) (subst (IsPermutation (take m xs ++ get_or xs m d ∷ [])) (sym cut) (snoc-shuffled (get_or xs m d) (take m xs) (take m ys) a.entries));
-        others = ap (λ (k : ℕ). drop k ys) more ∙ sym (drop-drop 1 m ys) ∙ ap (drop 1) a.others ∙ drop-drop 1 m xs ∙ ap (λ (k : ℕ). drop k xs) (sym more);
-      }
+  pub behind-pushed : (xs zs : List X) (n : ℕ) (x : X) → Rearranged (n + 1) (set xs n x) zs → (k : ℕ) (d : X) → n ≤ k → n + 1 ≤ k → get_or zs k d ≡ get_or xs k d
+  behind-pushed xs zs n x a k d p q = behind (n + 1) (set xs n x) zs a k d q ∙ get_or-set_other xs n k x d (omega arith)
 
-  -- the last entry went to slot 0, and then down
-  pub pop-arranged : (xs ys zs : List X) (n m : ℕ) → suc m ≡ n → n ≤ length xs → Swapped xs ys 0 m → Rearranged m ys zs → Rearranged n xs zs
-  pop-arranged xs ys zs n m e le s a =
-      let d = head xs (omega arith) in
-      let swap = arranged-more n 0 m xs xs ys (omega arith) (omega arith) le s (arranged-none n xs) in
-      let len = arranged-length n xs ys swap in
-      let wide = subst (λ (k : ℕ). Rearranged k ys zs) e (widened m ys zs d (omega arith) a) in
-      record { entries = IsPermutation-trans (take n xs) (take n ys) (take n zs) swap.entries wide.entries; others = wide.others ∙ swap.others }
+  pub behind-popped : (xs ys zs : List X) (n m : ℕ) → suc m ≡ n → Swapped xs ys 0 m → Rearranged m ys zs → (k : ℕ) (d : X) → n ≤ k → m ≤ k → get_or zs k d ≡ get_or xs k d
+  behind-popped xs ys zs n m e s a k d p q = behind m ys zs a k d q ∙ s.2 k d (omega arith) (omega arith)
 
   -- slot 0 apart, the others are left
   left_over : (xs ys zs : List X) (n m : ℕ) (d : X) → suc m ≡ n → n ≤ length xs → Swapped xs ys 0 m → Rearranged m ys zs → IsPermutation (take n xs) (get_or xs 0 d ∷ take m zs)
@@ -70,9 +57,8 @@ module _ {X : Type 0} (before : X → X → Bool) (o : Total before) where
   peeked xs n le h = first-led (take n xs) (λ d. none_before xs n d le h)
 
   -- where there is a first entry, there are entries
-  pub held : (xs : List X) (n : ℕ) (x : X) → Some x ≡ first (sorted before (take n xs)) → 0 < n
-  held xs zero x e = cc
-  held xs (suc n) x e = omega arith
+  pub held : (xs : List X) (n : ℕ) (x : X) → n ≤ length xs → Some x ≡ first (sorted before (take n xs)) → 0 < n
+  held xs n x le e = omega (arith, first-some (sorted before (take n xs)) x e, length-bag before xs n le)
 
   pub popped : (xs ys zs : List X) (n m : ℕ) → suc m ≡ n → n ≤ length xs → HeapOrder before xs n → Swapped xs ys 0 m → Rearranged m ys zs → sorted before (take m zs) ≡ rest (sorted before (take n xs))
   popped xs ys zs n m e le h s a =
