@@ -20,7 +20,7 @@ use Rattle.std.proofs.lemmas.Iterator.{YieldsList-from_range, YieldsList-from_ma
 use Rattle.std.proofs.lemmas.Iterator.Consumers.{reduce_from_yields_List}
 use Rattle.std.proofs.lemmas.Iterator.Search.{any_from_yields_List}
 use Rattle.model.specs.Range.{top, every, any, lowest}
-use Rattle.model.proofs.Range.{top-same, any-same, every-same, first-at, first-none}
+use Rattle.model.proofs.Range.{top-same, any-same, first-at, first-none}
 
 -- What chains of iterators make, told by index: over a list, and over the numbers below n.
 

@@ -7,4 +7,14 @@ pub mod Rules
 pub mod Levels
 pub mod Cycles
 pub mod Starts
+pub mod Completions
+pub mod Leading
+pub mod Moving
+pub mod Membership
+pub mod Choosing
+pub mod Ordering
+pub mod Covering
+pub mod Sums
+pub mod Loads
+pub mod Paths
 pub mod Chains

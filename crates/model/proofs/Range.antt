@@ -2,7 +2,7 @@ use Rattle.std.proofs.Common.{◌≡◌, ℕ, zero, suc, ◌+◌, ◌<◌, ◌�
 use native.Mathlib.Decide.{ℕ_discrete, dec_lt}
 use borrow.Author.Clash.{clash}
 use Rattle.std.proofs.lemmas.Bool.{eq-eqb, ne_eqb, lt-ltb, le-ltb, and_parts, and_right, or_right}
-use Rattle.model.specs.Range.{top, every, any, first, put}
+use Rattle.model.specs.Range.{top, every, any, first, least, put}
 
 pub le-top : (n : ℕ) (f : ℕ → ℕ) (k : ℕ) → k < n → f k ≤ top n f
 le-top zero f k h = absurd (omega arith)
@@ -15,6 +15,13 @@ le-top (suc n) f k h =
 pub top-le : (n : ℕ) (f : ℕ → ℕ) (y : ℕ) → ((k : ℕ) → k < n → f k ≤ y) → top n f ≤ y
 top-le zero f y h = omega arith
 top-le (suc n) f y h = omega (arith, h n (omega arith), top-le n f y (λ k l. h k (omega arith)))
+
+pub least-le : (n : ℕ) (f : ℕ → ℕ) (k : ℕ) → k < n → least n f ≤ f k
+least-le zero f k h = absurd (omega arith)
+least-le (suc n) f k h = elim (ℕ_discrete k n) [
+  | yes e ↦ let same : f k ≡ f n = ap f e in omega arith
+  | no ne ↦ omega (arith, least-le n f k (omega arith))
+]
 
 -- a term that counts only under a test
 pub cond-le : (b : Bool) (x y : ℕ) → (b ≡ true → x ≤ y) → cond b x 0 ≤ y

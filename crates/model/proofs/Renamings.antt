@@ -6,25 +6,25 @@ use Rattle.model.specs.Partial.{Partial}
 use Rattle.model.specs.NormalForm.{Renaming, Renamed}
 
 -- an exchange of two machines
-abbrev swap : ℕ → ℕ → ℕ → ℕ
+abbrev pub swap : ℕ → ℕ → ℕ → ℕ
 swap a b m = cond (eqb m a) b (cond (eqb m b) a m)
 
-swap-twice : (a b m : ℕ) → swap a b (swap a b m) ≡ m
+pub swap-twice : (a b m : ℕ) → swap a b (swap a b m) ≡ m
 swap-twice a b m = grind (arith, nat_tests)
 
-swap-low : (a b p m : ℕ) → a < p → b < p → m < p → swap a b m < p
+pub swap-low : (a b p m : ℕ) → a < p → b < p → m < p → swap a b m < p
 swap-low a b p m ha hb hm = grind (arith, nat_tests)
 
-swap-left : (a b : ℕ) → swap a b a ≡ b
+pub swap-left : (a b : ℕ) → swap a b a ≡ b
 swap-left a b = grind (arith, nat_tests)
 
-swap-off : (a b m : ℕ) → m ≢ a → m ≢ b → swap a b m ≡ m
+pub swap-off : (a b m : ℕ) → m ≢ a → m ≢ b → swap a b m ≡ m
 swap-off a b m na nb = grind (arith, nat_tests)
 
-abbrev unchanged : (p : ℕ) → Renaming p
+abbrev pub unchanged : (p : ℕ) → Renaming p
 unchanged p = record { to = λ m. m; back = λ m. m; low = λ m h. h; low_back = λ m h. h; there = λ m. refl; here = λ m. refl }
 
-abbrev then-swap : (p : ℕ) → Renaming p → (a b : ℕ) → a < p → b < p → Renaming p
+abbrev pub then-swap : (p : ℕ) → Renaming p → (a b : ℕ) → a < p → b < p → Renaming p
 then-swap p π a b ha hb =
     record {
       to = λ m. swap a b (π.to m);

@@ -1,10 +1,10 @@
-use Rattle.std.proofs.Common.{◌≡◌, ℕ, ◌+◌, ◌<◌, ◌≤◌, max, Bool, true, false, not, ◌&&◌, ◌||◌, eqb, ltb, ◌≢◌, sym, refl, ap, ◌∙◌, inl, inr, arith}
+use Rattle.std.proofs.Common.{◌≡◌, ℕ, ◌+◌, ◌<◌, ◌≤◌, max, Bool, true, false, not, ◌||◌, eqb, ltb, ◌≢◌, sym, refl, ap, ◌∙◌, inl, inr, arith}
 use native.Mathlib.Decide.{ℕ_discrete}
 use Rattle.std.proofs.lemmas.Bool.{eq-eqb, ne_eqb, eqb-true, lt-ltb, ltb-true, and_from, and_parts, and_right, not-true, not_from_false, not_from_true}
 use Rattle.model.specs.Range.{put}
 use Rattle.model.specs.Graph.{Graph}
 use Rattle.model.specs.Schedule.{Feasible, delay}
-use Rattle.model.specs.Partial.{Partial, Complete, Free, fed, is_ready, is_free, Obeys, finish_on, machine_finish, arrival, data_ready, append, whole}
+use Rattle.model.specs.Partial.{Partial, Complete, Free, fed, is_ready, is_free, Obeys, lies_on, finish_on, machine_finish, arrival, data_ready, append, whole}
 use Rattle.model.specs.NormalForm.{Renamed, normal_form}
 use Rattle.model.specs.Reachable.{Reachable, Empty}
 use Rattle.model.specs.Reachable.Reachable.{none, more}
@@ -51,7 +51,7 @@ finish-has g s m u hu hp hm =
 pub finish-le : (g : Graph) (s : Partial) (m y : ℕ) → ((u : ℕ) → u < g.tasks → s.placed u ≡ true → s.machine u ≡ m → s.start u + g.work u ≤ y) → machine_finish g s m ≤ y
 finish-le g s m y h =
     top-le g.tasks (finish_on g s m) y
-    (λ u hu. cond-le (s.placed u && eqb (s.machine u) m) (s.start u + g.work u) y
+    (λ u hu. cond-le (lies_on s m u) (s.start u + g.work u) y
     (λ e. h u hu (and_parts _ _ e).0 (eqb-true _ _ (and_parts (s.placed u) _ e).1)))
 
 empty-obeys : (g : Graph) → Dag g → (s : Partial) → Empty g s → Obeys g s

@@ -5,4 +5,7 @@ pub mod Schedule
 pub mod Partial
 pub mod NormalForm
 pub mod Reachable
+pub mod Completion
+pub mod Children
+pub mod Bounds
 pub mod Laws

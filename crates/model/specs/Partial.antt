@@ -39,9 +39,13 @@ is_ready g s t = not (s.placed t) && every g.count (fed g s t)
 abbrev pub is_free : Graph → Partial → ℕ → Bool
 is_free g s t = nat_lt t g.tasks && is_ready g s t
 
+-- whether task u is placed on machine m
+abbrev pub lies_on : Partial → ℕ → ℕ → Bool
+lies_on s m u = s.placed u && s.machine u == m
+
 -- the finish of task u if it is placed on machine m, else 0
 abbrev pub finish_on : Graph → Partial → ℕ → ℕ → ℕ
-finish_on g s m u = if s.placed u && s.machine u == m then s.start u + g.work u else 0
+finish_on g s m u = if lies_on s m u then s.start u + g.work u else 0
 
 -- the greatest finish of the tasks placed on a machine, or 0
 abbrev pub machine_finish : Graph → Partial → ℕ → ℕ
