@@ -1,5 +1,5 @@
-ghost use Rattle.std.specs.Prelude.{◌≡◌, ◌+◌, ◌^◌, ◌≤◌, ◌&&◌, ◌↔◌, IsTrue, ◌==◌};
-ghost use Rattle.model.specs.Partial.{machine_finish, data_ready, start_on, Free, is_ready, is_free};
+ghost use Rattle.std.specs.Prelude.{◌≡◌, ◌+◌, ◌^◌, ◌≤◌, ◌↔◌, IsTrue};
+ghost use Rattle.model.specs.Partial.{lies_on, machine_finish, data_ready, start_on, Free, is_ready, is_free};
 ghost use Rattle.loader.specs.Meaning.{the_graph};
 ghost use Rattle.partial.specs.Meaning.{the_partial};
 ghost use Rattle.partial.specs.Transfers.{transfer_arrival, transfer_fed};
@@ -12,9 +12,8 @@ use loader::transfer::Transfer;
 // Graph, task and machine stay apart: a caller asks of many tasks and machines, each once.
 impl PartialSchedule {
     // Whether task u is placed on machine m.
-    fn lies_on(&self, m: u8, u: usize) -> bool
-        ensures { result ≡ ((the_partial self.now).placed u
-            && (the_partial self.now).machine u == m) }
+    pub fn lies_on(&self, m: u8, u: usize) -> bool
+        ensures { result ≡ lies_on (the_partial self.now) m u }
     {
         self.placement(u).is_some_and(|p| p.machine == m)
     }

@@ -1,8 +1,8 @@
-use Rattle.std.proofs.Common.{ℕ, ◌+◌, ◌&&◌, nat_eq, sym, ◌∙◌, rules, tests}
+use Rattle.std.proofs.Common.{ℕ, ◌+◌, sym, ◌∙◌, rules, tests}
 use Rattle.std.specs.List.{range_with_len}
 use Rattle.std.proofs.lemmas.Iterator.{YieldsList-from_range, YieldsList-from_map}
 use Rattle.std.proofs.lemmas.Iterator.Consumers.{YieldsList-at, YieldsList-from_filter, reduce_from_yields_List}
-use Rattle.model.specs.Partial.{finish_on}
+use Rattle.model.specs.Partial.{lies_on, finish_on}
 use Rattle.model.proofs.Chains.{top-ranged, most-kept}
 use Rattle.loader.specs.Meaning.{the_graph}
 use Rattle.partial.specs.Meaning.{the_partial}
@@ -12,7 +12,7 @@ pub returns-clause-is : goal.returns-clause-is
 returns-clause-is c =
     let g = the_graph c.args.g.now in
     let s = the_partial c.args.self.now in
-    let p = λ (u : ℕ). s.placed u && nat_eq (s.machine u) c.args.m in
+    let p = lies_on s c.args.m in
     let h = λ (u : ℕ). s.start u + g.work u in
     c.unwrap_or.ensures
     ∙ most-kept p h (range_with_len 0 g.tasks) c.max.result (reduce_from_yields_List _ _ c.max.result c.max.ensures.ran
