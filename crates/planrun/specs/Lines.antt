@@ -15,4 +15,4 @@ task_text l =
     ++ (codes " finish " ++ decimal l.finish))))))
 
 abbrev pub length_text : LengthLine → List ℕ
-length_text l = codes "length " ++ decimal l.length
+length_text l = codes "length " ++ (decimal l.length ++ (codes " floor " ++ decimal l.floor))

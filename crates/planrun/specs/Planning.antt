@@ -1,6 +1,7 @@
 use Rattle.std.specs.Prelude.{◌≡◌, ℕ, zero, suc, ◌+◌, List, [], ◌++◌, codes, Ok, Err}
 use Rattle.model.specs.Schedule.{makespan}
-use Rattle.model.specs.Partial.{whole}
+use Rattle.model.specs.Partial.{nothing, whole}
+use Rattle.model.specs.Bounds.{Bound, path_bound, load_bound, arrival_bound, larger}
 use Rattle.loader.specs.declared.faults.GraphFault.{GraphFault}
 use Rattle.refusal.specs.declared.refusal.Refusal.{Refusal}
 use Rattle.loader.specs.Meaning.{the_graph, description}
@@ -14,12 +15,18 @@ use Rattle.planrun.specs.declared.lines.LengthLine.{LengthLine}
 use Rattle.planrun.specs.declared.lines.TaskLine.{TaskLine}
 use Rattle.planrun.specs.declared.plan.Planned.{Planned}
 
--- the graph is the one that the file describes, the rows are its list schedule, and the length is their makespan
+-- the path, load and arrival bounds joined
+abbrev pub joined : Bound
+joined = larger (larger path_bound load_bound) arrival_bound
+
+-- the graph is the one that the file describes, the rows are its list schedule, the length is their makespan,
+-- and the floor is the joined bound before any task is placed
 abbrev pub PlanOf : List ℕ → Planned → Type 0
 PlanOf bytes p =
     (parse bytes ≡ Ok (description p.graph))
     × (schedule_of p.schedule.rows ≡ whole (listed (the_graph p.graph) p.graph.tasks))
     × (p.schedule.makespan ≡ makespan (the_graph p.graph) (schedule_of p.schedule.rows))
+    × (p.floor ≡ joined (the_graph p.graph) nothing)
 
 -- the file is refused, and this is its refusal
 abbrev pub RefusalOf : List ℕ → Refusal → Type 0
@@ -31,7 +38,7 @@ head_of p = record { tasks = (the_graph p.graph).tasks; machines = (the_graph p.
 
 -- the last line
 abbrev pub length_of : Planned → LengthLine
-length_of p = record { length = p.schedule.makespan }
+length_of p = record { length = p.schedule.makespan; floor = p.floor }
 
 -- the line of task t
 abbrev pub line_of : Planned → ℕ → TaskLine

@@ -16,10 +16,11 @@ pub struct TaskLine {
     pub finish: u64,
 }
 
-// The last line: the makespan.
+// The last line: the makespan, and the lower bound of every feasible schedule's.
 #[derive(Clone, Copy, PartialEq, Eq, Debug)]
 pub struct LengthLine {
     pub length: u64,
+    pub floor: u64,
 }
 
 impl fmt::Display for HeadLine {
@@ -61,7 +62,7 @@ impl fmt::Display for LengthLine {
     ghost output = { λ l. Some (length_text l) };
 
     fn fmt<W: fmt::Write>(&self, f: &mut fmt::Formatter<W>) -> fmt::Result {
-        let length = self.length;
-        write!(f, "length {length}")
+        let LengthLine { length, floor } = *self;
+        write!(f, "length {length} floor {floor}")
     }
 }

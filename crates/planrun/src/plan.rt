@@ -1,7 +1,14 @@
-ghost use Rattle.std.specs.Prelude.{MatchResult};
+ghost use Rattle.std.specs.Prelude.{◌≤◌, MatchResult, IfOk};
+ghost use Rattle.model.specs.Schedule.{Schedule, Feasible, makespan};
+ghost use Rattle.loader.specs.Meaning.{the_graph};
 ghost use Rattle.planrun.specs.Planning.{PlanOf, RefusalOf};
 
 use crate::lines::{HeadLine, LengthLine, TaskLine};
+use bounds::arrival_bound::ArrivalBound;
+use bounds::larger_of::LargerOf;
+use bounds::load_bound::LoadBound;
+use bounds::lower_bound::root_bound;
+use bounds::path_bound::PathBound;
 use loader::graph::TaskGraph;
 use loader::load::load;
 use partial::placement::Placement;
@@ -9,21 +16,38 @@ use refusal::refusal::Refusal;
 use schedule::checked::{CheckedSchedule, checked_list_schedule};
 use std::fmt;
 
-// A graph and its checked list schedule.
+// The three rules joined: path, load and arrival.
+const RULES: LargerOf<LargerOf<PathBound, LoadBound>, ArrivalBound> = LargerOf {
+    first: LargerOf {
+        first: PathBound,
+        second: LoadBound,
+    },
+    second: ArrivalBound,
+};
+
+// A graph, its checked list schedule, and a lower bound of every feasible schedule's makespan.
 #[derive(Clone, Copy)]
 pub struct Planned {
     pub graph: TaskGraph,
     pub schedule: CheckedSchedule,
+    pub floor: u64,
 }
 
-// The graph that a run file describes, with its list schedule; or the refusal of the file.
+// The graph that a run file describes, with its list schedule and a lower bound; or the refusal of the file.
 pub fn plan_file(bytes: &[u8]) -> Result<Planned, Refusal>
-    ensures { MatchResult result (λ p. PlanOf bytes.now p) (λ e. RefusalOf bytes.now e) }
+    ensures is { MatchResult result (λ p. PlanOf bytes.now p) (λ e. RefusalOf bytes.now e) }
+    ensures floor { IfOk result (λ p. (q : Schedule) → Feasible (the_graph p.graph) q
+        → p.floor ≤ makespan (the_graph p.graph) q) }
 {
     let mut graph = TaskGraph::new();
     load(&mut graph, bytes)?;
     let schedule = checked_list_schedule(&graph)?;
-    Ok(Planned { graph, schedule })
+    let floor = root_bound(&RULES, &graph);
+    Ok(Planned {
+        graph,
+        schedule,
+        floor,
+    })
 }
 
 impl Planned {
@@ -62,6 +86,7 @@ impl Planned {
     {
         LengthLine {
             length: self.schedule.makespan,
+            floor: self.floor,
         }
     }
 }
