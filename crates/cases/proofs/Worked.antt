@@ -5,7 +5,7 @@ use Rattle.model.specs.Partial.{append}
 use Rattle.model.specs.NormalForm.{normal_form}
 use Rattle.loader.specs.View.{leads}
 use Rattle.schedule.specs.ListSchedule.{listed, next_task, earliest}
-use Rattle.cases.specs.Table.{ExampleRead, Levels, ListSchedule, Checks, Overlaps, Refused}
+use Rattle.cases.specs.Table.{ExampleRead, Levels, ListSchedule, Bounds, Checks, Overlaps, Refused}
 
 pub example-read : ExampleRead
 unfolding any first leads
@@ -18,6 +18,10 @@ levels = (refl, refl, refl, refl)
 pub list-schedule : ListSchedule
 unfolding level listed next_task earliest normal_form append
 list-schedule = ((refl, refl, refl, refl), (refl, refl, refl, refl), refl)
+
+pub bounds : Bounds
+unfolding level
+bounds = (refl, refl, refl)
 
 pub checks : Checks
 unfolding any first leads

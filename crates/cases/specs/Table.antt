@@ -1,6 +1,7 @@
 use Rattle.std.specs.Prelude.{◌≡◌, ℕ, List, [], ◌∷◌, Ok, Err, Result}
 use Rattle.model.specs.Graph.{Graph, level}
-use Rattle.model.specs.Partial.{Partial, whole}
+use Rattle.model.specs.Partial.{Partial, nothing, whole}
+use Rattle.model.specs.Bounds.{path_bound, load_bound, arrival_bound}
 use Rattle.model.specs.Schedule.{makespan}
 use Rattle.refusal.specs.declared.layer.Layer.{Layer}
 use Rattle.refusal.specs.declared.refusal.Refusal.{Refusal}
@@ -84,6 +85,13 @@ ListSchedule =
     × ((finished.start 0 ≡ 0) × (finished.start 1 ≡ 2)
     × (finished.start 2 ≡ 3) × (finished.start 3 ≡ 7))
     × (makespan (described example) (whole finished) ≡ 9)
+
+-- before any task is placed
+abbrev pub Bounds : Type 0
+Bounds =
+    (path_bound (described example) nothing ≡ 7)
+    × (load_bound (described example) nothing ≡ 5)
+    × (arrival_bound (described example) nothing ≡ 7)
 
 abbrev pub Checks : Type 0
 Checks =

@@ -1,6 +1,8 @@
 #![tactic(auto)]
 
 #[cfg(test)]
+mod bound_tests;
+#[cfg(test)]
 mod check_tests;
 #[cfg(test)]
 mod files;

@@ -1,10 +1,11 @@
-ghost use Rattle.cases.specs.Table.{ExampleRead, Levels, ListSchedule, Checks, Overlaps, Refused};
+ghost use Rattle.cases.specs.Table.{ExampleRead, Levels, ListSchedule, Bounds, Checks, Overlaps, Refused};
 
 // The worked cases, as equalities that the checker computes.
 pub fn worked_cases()
     ensures read { ExampleRead }
     ensures levels { Levels }
     ensures list { ListSchedule }
+    ensures bounds { Bounds }
     ensures checks { Checks }
     ensures overlaps { Overlaps }
     ensures refused { Refused }
