@@ -132,7 +132,7 @@ module _ {X : Type 0} (before : X → X → Bool) (o : Total before) where
       sym (sorted-shuffled xs (x ∷ ys) s) ∙ front x (sorted before ys) (all_shuffled (λ y. before y x ≡ false) ys (sorted before ys) (sorted-shuffles ys) a.1)
 
   -- bags are in order
-  insert-in-order : (a : X) (l : List X) → InOrder before l → InOrder before (insert before a l)
+  pub insert-in-order : (a : X) (l : List X) → InOrder before l → InOrder before (insert before a l)
   insert-in-order a [] h = (tt, tt)
   insert-in-order a (x ∷ xs) h = by-test (insert-in-order a xs h.1) (before x a) refl
     where

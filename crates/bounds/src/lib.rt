@@ -1,6 +1,7 @@
 #![tactic(auto)]
 
 pub mod arrival_bound;
+pub mod joined;
 pub mod larger_of;
 pub mod load_bound;
 pub mod lower_bound;

@@ -6,7 +6,7 @@ use Rattle.std.specs.declared.ops.Range.{Range}
 use Rattle.std.specs.declared.iter.Map.{Map}
 use Rattle.std.specs.Array.{IsFromFnResultFrom, IsFromFnResult}
 use Rattle.std.specs.Fn.{Called, CalledAt}
-use Rattle.std.specs.Iterator.{ChecksAny, FindsItem, PicksByCmp}
+use Rattle.std.specs.Iterator.{ChecksAny, ChecksAll, FindsItem, PicksByCmp}
 use Rattle.std.specs.Iterator.Adapters.{map_source, map_callee}
 use Rattle.std.specs.Option.{MatchOption, unwrap_or}
 use Rattle.std.specs.Ordering.{max_by_ordering, nat_cmp}
@@ -18,9 +18,9 @@ use Rattle.std.proofs.lemmas.Bool.{lt-ltb, le-ltb}
 use Rattle.std.proofs.iter.Yields.{nat_range_steps}
 use Rattle.std.proofs.lemmas.Iterator.{YieldsList-from_range, YieldsList-from_map, first_from_Range, maps}
 use Rattle.std.proofs.lemmas.Iterator.Consumers.{reduce_from_yields_List}
-use Rattle.std.proofs.lemmas.Iterator.Search.{any_from_yields_List}
+use Rattle.std.proofs.lemmas.Iterator.Search.{any_from_yields_List, all_from_yields_List}
 use Rattle.model.specs.Range.{top, every, any, lowest}
-use Rattle.model.proofs.Range.{top-same, any-same, first-at, first-none}
+use Rattle.model.proofs.Range.{top-same, any-same, every-same, first-at, first-none}
 
 -- What chains of iterators make, told by index: over a list, and over the numbers below n.
 
@@ -37,7 +37,7 @@ unfolding any
 any-front zero f = or-none (f 0)
 any-front (suc n) f = ap (λ b. b || f (suc n)) (any-front n f) ∙ or_assoc (f 0) _ _
 
-every-front : (n : ℕ) (f : ℕ → Bool) → every (suc n) f ≡ (f 0 && every n (λ k. f (suc k)))
+pub every-front : (n : ℕ) (f : ℕ → Bool) → every (suc n) f ≡ (f 0 && every n (λ k. f (suc k)))
 every-front zero f = and-all (f 0)
 every-front (suc n) f = ap (λ b. b && f (suc n)) (every-front n f) ∙ and_assoc (f 0) _ _
 
@@ -79,6 +79,10 @@ pub any-ranged : (n : ℕ) (p : ℕ → Bool) → any n p ≡ list_any p (range_
 any-ranged n p = any-same n p (λ k. p (get_or (range_with_len 0 n) k 0)) (λ k l. ap p (range-at n k l))
     ∙ ap (λ m. any m (λ k. p (get_or (range_with_len 0 n) k 0))) (sym (length-range_with_len 0 n)) ∙ any-listed p 0 (range_with_len 0 n)
 
+pub every-ranged : (n : ℕ) (p : ℕ → Bool) → every n p ≡ list_all p (range_with_len 0 n)
+every-ranged n p = every-same n p (λ k. p (get_or (range_with_len 0 n) k 0)) (λ k l. ap p (range-at n k l))
+    ∙ ap (λ m. every m (λ k. p (get_or (range_with_len 0 n) k 0))) (sym (length-range_with_len 0 n)) ∙ every-listed p 0 (range_with_len 0 n)
+
 pub top-ranged : (n : ℕ) (h : ℕ → ℕ) → top n h ≡ fold (λ b x. max b (h x)) 0 (range_with_len 0 n)
 top-ranged n h = top-same n h (λ k. h (get_or (range_with_len 0 n) k 0)) (λ k l. ap h (range-at n k l))
     ∙ ap (λ m. top m (λ k. h (get_or (range_with_len 0 n) k 0))) (sym (length-range_with_len 0 n)) ∙ top-listed h 0 (range_with_len 0 n)
@@ -98,6 +102,11 @@ below n = record { start = 0; end = n }
 pub any-below : {F : Type 0} {g : Mut F (ℕ × Unit {0}) Bool} (n m : ℕ) (p : ℕ → Bool) (u : Range ℕ) (f : F) (r : Bool)
     → m ≡ n → ChecksAny nat_range_steps g (below m) f r u → ((x : ℕ) (b : Bool) (q : F) → Called g f (x, tt) b q → (q ≡ f) × (b ≡ p x)) → r ≡ any n p
 any-below n m p u f r e d k = any_from_yields_List p u f r d (YieldsList-from_range 0 m n refl (omega arith)) k ∙ sym (any-ranged n p)
+
+-- what `all` answers
+pub every-below : {F : Type 0} {g : Mut F (ℕ × Unit {0}) Bool} (n m : ℕ) (p : ℕ → Bool) (u : Range ℕ) (f : F) (r : Bool)
+    → m ≡ n → ChecksAll nat_range_steps g (below m) f r u → ((x : ℕ) (b : Bool) (q : F) → Called g f (x, tt) b q → (q ≡ f) × (b ≡ p x)) → r ≡ every n p
+every-below n m p u f r e d k = all_from_yields_List p u f r d (YieldsList-from_range 0 m n refl (omega arith)) k ∙ sym (every-ranged n p)
 
 -- what `find` answers
 pub lowest-below : {F : Type 0} {g : Mut F (Bor ℕ × Unit {0}) Bool} (n m : ℕ) (p : ℕ → Bool) (u : Range ℕ) (f : F) (r : Option ℕ)

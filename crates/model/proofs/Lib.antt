@@ -18,3 +18,5 @@ pub mod Sums
 pub mod Loads
 pub mod Paths
 pub mod Chains
+pub mod Passing
+pub mod Orderly

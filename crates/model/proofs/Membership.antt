@@ -8,13 +8,13 @@ use Rattle.model.specs.Children.{passing}
 -- What lies in a list: in a part of it that passes a test, in what a function makes of it, in a range.
 
 module _ {X : Type 0} where
-  contains-first : (x : X) (xs : List X) → Contains (x ∷ xs) x
+  pub contains-first : (x : X) (xs : List X) → Contains (x ∷ xs) x
   contains-first x xs = (0, omega arith, refl)
 
-  contains-later : (y : X) (xs : List X) (x : X) → Contains xs x → Contains (y ∷ xs) x
+  pub contains-later : (y : X) (xs : List X) (x : X) → Contains xs x → Contains (y ∷ xs) x
   contains-later y xs x c = (suc c.0, omega (arith, c.1), c.2)
 
-  contains-cases : (y : X) (xs : List X) (x : X) → Contains (y ∷ xs) x → (y ≡ x) ⊎ Contains xs x
+  pub contains-cases : (y : X) (xs : List X) (x : X) → Contains (y ∷ xs) x → (y ≡ x) ⊎ Contains xs x
   contains-cases y xs x (zero, h, e) = inl e
   contains-cases y xs x (suc k, h, e) = inr (k, omega (arith, h), e)
 

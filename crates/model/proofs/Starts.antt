@@ -15,7 +15,7 @@ use Rattle.model.proofs.Rules.{finish-le, reachable-obeys, complete-feasible}
 pub lawful-dag : {g : Graph} → Lawful g → Dag g
 lawful-dag L = record { ends = L.numbers.ends; acyclic = L.acyclic }
 
-delay-le : (g : Graph) → Costs g → (k : ℕ) → k < g.count → (b : Bool) → cond b 0 (g.cost k) ≤ 1000
+pub delay-le : (g : Graph) → Costs g → (k : ℕ) → k < g.count → (b : Bool) → cond b 0 (g.cost k) ≤ 1000
 delay-le g C k h true = omega arith
 delay-le g C k h false = C k h
 

@@ -58,3 +58,7 @@ arrival_bound g s = top g.tasks (arrival_at g s)
 -- the greater of two
 abbrev pub larger : Bound → Bound → Bound
 larger a b g s = max (a g s) (b g s)
+
+-- the three joined
+abbrev pub joined_bound : Bound
+joined_bound = larger (larger path_bound load_bound) arrival_bound

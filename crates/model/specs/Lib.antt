@@ -8,4 +8,6 @@ pub mod Reachable
 pub mod Completion
 pub mod Children
 pub mod Bounds
+pub mod Nodes
+pub mod Soundness
 pub mod Laws
