@@ -1,4 +1,4 @@
-ghost use Rattle.std.specs.Prelude.{◌≡◌, length, None, slice_index_or};
+ghost use Rattle.std.specs.Prelude.{◌≡◌, ◌↔◌, IsTrue, length, None, slice_index_or};
 
 use crate::placement::Placement;
 
@@ -15,6 +15,7 @@ pub struct PartialSchedule {
 
 impl PartialSchedule {
     ghost use Rattle.model.specs.Partial.{nothing};
+    ghost use Rattle.model.specs.Nodes.{is_duplicate};
     ghost use Rattle.partial.specs.Meaning.{the_partial};
 
     // Nothing is placed.
@@ -51,6 +52,14 @@ impl PartialSchedule {
         ensures { result ≡ (the_partial self.now).start t }
     {
         self.placement(t).map_or(0, |p| p.start)
+    }
+
+    // Whether both place the same tasks, on the same machines at the same starts.
+    pub fn is_duplicate(&self, other: &PartialSchedule) -> bool
+        ensures is { result ≡ is_duplicate (the_partial self.now) (the_partial other.now) }
+        ensures same { IsTrue result ↔ (self.now.places ≡ other.now.places) }
+    {
+        self == other
     }
 }
 

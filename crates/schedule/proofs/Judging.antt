@@ -1,4 +1,4 @@
-use Rattle.std.proofs.Common.{◌≡◌, ℕ, ◌+◌, ◌<◌, Bool, true, not, eqb, ltb, List, length, Some, None, Option, sym, refl, ap, subst, inl, inr, arith}
+use Rattle.std.proofs.Common.{◌≡◌, ℕ, ◌+◌, ◌<◌, Bool, true, not, eqb, ltb, List, length, Some, None, Option, Ok, Err, Result, sym, refl, ap, subst, inl, inr, arith}
 use native.Mathlib.Decide.{ℕ_discrete, dec_le, dec_lt}
 use Rattle.std.specs.Option.{MatchOption}
 use Rattle.std.proofs.lemmas.Bool.{eq-eqb, ne_eqb, eqb-true, eqb-false, lt-ltb, le-ltb, ltb-true, le-leb, lt-leb, and_parts, and_from, and_left, and_right, not-true, not_from_false}
@@ -8,6 +8,8 @@ use Rattle.model.specs.Schedule.{Schedule, Feasible, delay, makespan}
 use borrow.Author.Clash.{clash}
 use Rattle.model.proofs.Range.{any-on, any-has, first-is}
 use Rattle.partial.specs.declared.placement.Placement.{Placement}
+use Rattle.schedule.specs.declared.fault.CheckFault.{CheckFault}
+use Rattle.schedule.specs.declared.fault.CheckFault.TheVariants as Fault
 use Rattle.schedule.specs.Rows.{schedule_of}
 use Rattle.schedule.specs.Check.{wrong, hasty, early, collide, overlaps, wrong_row, early_task, overlapping_task, verdict, judged, checked}
 use Rattle.schedule.specs.Judged.{Lowest, Nowhere, OutOfRange, TooEarly, Overlapping, Judged}
@@ -100,23 +102,44 @@ module _ (g : Graph) (p : Schedule) where
     ];
   }
 
--- the check is right about any rows
-module _ (g : Graph) (E : Ends g) (rows : List Placement) where
-  right : length rows ≡ g.tasks → Judged g rows (judged g (schedule_of rows))
-  right e = go (wrong_row g p) (early_task g p) (overlapping_task g p) (rows-right g p) (starts-right g p) (runs-right g p)
+  -- the verdict is one of four, each with what it tells
+  judged-cases : (P : Result ℕ CheckFault → Type 0)
+      → ((t : ℕ) → Lowest g.tasks (OutOfRange g p) t → P (Err (Fault.Rows t)))
+      → ((t : ℕ) → Nowhere g.tasks (OutOfRange g p) → Lowest g.tasks (TooEarly g p) t → P (Err (Fault.Early t)))
+      → ((t : ℕ) → Nowhere g.tasks (OutOfRange g p) → Nowhere g.tasks (TooEarly g p) → Lowest g.tasks (Overlapping g p) t → P (Err (Fault.Overlap t)))
+      → (Nowhere g.tasks (OutOfRange g p) → Nowhere g.tasks (TooEarly g p) → Nowhere g.tasks (Overlapping g p) → P (Ok (makespan g p)))
+      → P (judged g p)
+  judged-cases P rows early overlap passes = go (wrong_row g p) (early_task g p) (overlapping_task g p) rows-right starts-right runs-right
     where
-      p : Schedule
-      p = schedule_of rows
-
       go : (a b c : Option ℕ)
           → MatchOption a (Nowhere g.tasks (OutOfRange g p)) (Lowest g.tasks (OutOfRange g p))
           → MatchOption b (Nowhere g.tasks (TooEarly g p)) (Lowest g.tasks (TooEarly g p))
           → MatchOption c (Nowhere g.tasks (Overlapping g p)) (Lowest g.tasks (Overlapping g p))
-          → Judged g rows (verdict a b c (makespan g p))
-      go (Some t) b c x y z = ((λ F. in-range g p F.1 t x.0 x.1), inr (e, x))
-      go None (Some t) c x y z = ((λ F. in-time g p F.1 t y.1), (e, x, y))
-      go None None (Some t) x y z = ((λ F. alone g p F.1 t z.0 z.1), (e, x, y, z))
-      go None None None x y z = ((e, obeys-all g p E x y z), refl)
+          → P (verdict a b c (makespan g p))
+      go (Some t) b c x y z = rows t x
+      go None (Some t) c x y z = early t x y
+      go None None (Some t) x y z = overlap t x y z
+      go None None None x y z = passes x y z
+
+  -- a feasible schedule passes, with its makespan
+  pub judged-feasible : Feasible g p → judged g p ≡ Ok (makespan g p)
+  judged-feasible F = judged-cases (λ r. r ≡ Ok (makespan g p))
+      (λ t x. absurd (in-range F t x.0 x.1))
+      (λ t a x. absurd (in-time F t x.1))
+      (λ t a b x. absurd (alone F t x.0 x.1))
+      (λ a b c. refl)
+
+-- the check is right about any rows
+module _ (g : Graph) (E : Ends g) (rows : List Placement) where
+  right : length rows ≡ g.tasks → Judged g rows (judged g (schedule_of rows))
+  right e = judged-cases g p (Judged g rows)
+      (λ t x. ((λ F. in-range g p F.1 t x.0 x.1), inr (e, x)))
+      (λ t a x. ((λ F. in-time g p F.1 t x.1), (e, a, x)))
+      (λ t a b x. ((λ F. alone g p F.1 t x.0 x.1), (e, a, b, x)))
+      (λ a b c. ((e, obeys-all g p E a b c), refl))
+    where
+      p : Schedule
+      p = schedule_of rows
 
   pub check-right : Judged g rows (checked g rows)
   check-right = elim (ℕ_discrete (length rows) g.tasks) [

@@ -1,11 +1,15 @@
 ghost use Rattle.std.specs.Prelude.{◌≡◌};
 ghost use Rattle.loader.specs.Meaning.{the_graph};
-ghost use Rattle.schedule.specs.Check.{checked};
+ghost use Rattle.model.specs.Partial.{whole};
+ghost use Rattle.partial.specs.Meaning.{the_partial};
+ghost use Rattle.schedule.specs.Check.{checked, judged};
 ghost use Rattle.schedule.specs.Judged.{Judged};
 
+use crate::checked::rows;
 use crate::fault::CheckFault;
 use loader::graph::TaskGraph;
 use loader::transfer::Transfer;
+use partial::partial::PartialSchedule;
 use partial::placement::Placement;
 
 // What stands past the last row.
@@ -27,7 +31,7 @@ impl TaskRows<'_> {
     ghost use Rattle.schedule.specs.Rows.{blank};
     ghost use Rattle.schedule.specs.TaskRows.{rows_graph, rows_schedule};
     ghost use Rattle.schedule.specs.Check.{wrong, transfer_hasty, early, collide, overlaps};
-    ghost use Rattle.schedule.specs.Check.{wrong_row, early_task, overlapping_task, judged};
+    ghost use Rattle.schedule.specs.Check.{wrong_row, early_task, overlapping_task};
 
     // Row t, blank past the last one.
     fn row(&self, t: usize) -> Placement
@@ -147,4 +151,16 @@ pub fn check(g: &TaskGraph, rows: &[Placement]) -> Result<u64, CheckFault>
         return Err(CheckFault::Rows(g.tasks()));
     }
     TaskRows { graph: g, rows }.judged()
+}
+
+// The same of a partial schedule read as a schedule: machine and start of a task that it does not place are 0.
+pub fn check_partial(g: &TaskGraph, q: &PartialSchedule) -> Result<u64, CheckFault>
+    ensures { result ≡ judged (the_graph g.now) (whole (the_partial q.now)) }
+{
+    let rows = rows(q);
+    TaskRows {
+        graph: g,
+        rows: &rows,
+    }
+    .judged()
 }

@@ -19,7 +19,7 @@ impl PartialSchedule {
     }
 
     // The start of task u plus its work, 0 for what it lacks.
-    fn finish(&self, g: &TaskGraph, u: usize) -> u64
+    pub fn finish(&self, g: &TaskGraph, u: usize) -> u64
         ensures is { result ≡ (the_partial self.now).start u + (the_graph g.now).work u }
         ensures small { result ≤ 2 ^ 32 + 2 ^ 16 }
     {
