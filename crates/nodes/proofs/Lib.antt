@@ -1,0 +1,4 @@
+pub mod Reading
+pub mod Hashing
+pub mod Linking
+pub mod Walking

@@ -1,0 +1,4 @@
+pub mod View
+pub mod Meaning
+pub mod Hash
+pub mod Linked

@@ -1,0 +1,5 @@
+#![tactic(auto)]
+
+mod hash;
+pub mod node;
+pub mod table;
