@@ -1,0 +1,13 @@
+pub mod Duplicates
+pub mod Floor
+pub mod Children
+pub mod Visits
+pub mod Growth
+pub mod Visiting
+pub mod Listing
+pub mod Counts
+pub mod Expanding
+pub mod Starting
+pub mod Ripe
+pub mod Advancing
+pub mod Ending

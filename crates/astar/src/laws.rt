@@ -1,0 +1,33 @@
+ghost use Rattle.astar.specs.Laws.{FloorHolds, BestIsFeasible, ExpansionKeeps, AdvanceKeeps, AdvanceEnds, OpeningStands};
+
+// Each theorem on the states of a search is the promise of a function of its name.
+
+// A search that is opened stands.
+pub fn opening_stands()
+    ensures { OpeningStands }
+{}
+
+// No feasible schedule is shorter than the floor.
+pub fn floor_holds()
+    ensures { FloorHolds }
+{}
+
+// The best schedule is feasible, and its length is its makespan.
+pub fn best_is_feasible()
+    ensures { BestIsFeasible }
+{}
+
+// Expanding a node keeps the invariant; the floor does not fall and the best length does not rise.
+pub fn expansion_keeps()
+    ensures { ExpansionKeeps }
+{}
+
+// A call of advance keeps what holds between two calls, and is never Strange.
+pub fn advance_keeps()
+    ensures { AdvanceKeeps }
+{}
+
+// A call of advance ends at the first state to which one of five tests applies, by the first that does.
+pub fn advance_ends()
+    ensures { AdvanceEnds }
+{}
