@@ -1,0 +1,18 @@
+use Rattle.std.proofs.Common.{◌+◌, ◌-◌, ◌≡◌, length, arith, subst, ◌∙◌}
+use Rattle.search.specs.States.{the_state}
+use Rattle.search.specs.Counts.{Room}
+use Rattle.search.proofs.Folding.{fold-map-more, choice-at}
+use Rattle.search.proofs.expand.visit_all.Goals as goal
+
+pub visit_choice-requires-clause-appendable : goal.visit_choice-requires-clause-appendable
+visit_choice-requires-clause-appendable g c = c.requires.appendable _ _ (choice-at c.args.choices.now c.loop-choice.choice-index _ c.loop-choice-test.true)
+
+pub loop-choice-preserved : goal.loop-choice-preserved
+loop-choice-preserved g c =
+    let i = c.loop-choice.invariant in
+    let v = c.visit_choice.ensures in
+    let left : length c.args.choices.now - c.loop-choice.choice-index ≡ length c.args.choices.now - (c.loop-choice.choice-index + 1) + 1 = omega (arith, c.loop-choice-test.true) in record {
+      is = fold-map-more _ _ _ _ _ c.args.choices.now c.loop-choice.choice-index _ c.loop-choice-test.true i.is v.is;
+      room = v.room _ (subst (λ n. Room n (g.L.OpenList.limit c.loop-choice.list) (the_state c.loop-choice.tally c.loop-choice.table (g.L.OpenList.bag c.loop-choice.list))) left i.room);
+      limit = v.limit ∙ i.limit;
+    }

@@ -1,0 +1,9 @@
+use Rattle.std.proofs.Common.{◌∙◌, length}
+use Rattle.search.proofs.Calls.{promised-to, best-run}
+use Rattle.search.proofs.search.Search.best.Goals as goal
+
+pub returns-clause-promise : goal.returns-clause-promise
+returns-clause-promise g c = promised-to c.args.g.now
+
+pub returns-clause-run : goal.returns-clause-run
+returns-clause-run g c done r h = let x = best-run c.args.g.now done _ r (length c.args.rows.now) h in (c.write_best.ensures.is ∙ x.0, x.1)

@@ -1,0 +1,13 @@
+use Rattle.std.proofs.Common.{◌≡◌, ◌-◌}
+use Rattle.loader.specs.Meaning.{the_graph}
+use Rattle.astar.specs.Advance.{advanced}
+use Rattle.search.specs.States.{the_state}
+use Rattle.search.proofs.search.Search.spend.Given as goal
+
+abbrev pub invariant-loop : goal.invariant-loop
+invariant-loop g l = record {
+  is : advanced (the_graph l.g) (g.B.LowerBound.number l.rule) l.self.sizes (g.L.OpenList.limit l.list) (l.budget - l.counter) (the_state l.self.tally l.table (g.L.OpenList.bag l.list))
+      ≡ advanced (the_graph l.g) (g.B.LowerBound.number l.rule) l.fn.self.sizes (g.L.OpenList.limit l.fn.list) l.budget (the_state l.fn.self.tally l.fn.table (g.L.OpenList.bag l.fn.list));
+  sizes : l.self.sizes ≡ l.fn.self.sizes;
+  limit : g.L.OpenList.limit l.list ≡ g.L.OpenList.limit l.fn.list;
+}

@@ -1,0 +1,6 @@
+pub mod States
+pub mod Counts
+pub mod Refusals
+pub mod Calls
+pub mod Runs
+pub mod Promise
