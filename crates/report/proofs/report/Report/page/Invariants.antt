@@ -1,0 +1,11 @@
+use Rattle.std.proofs.Common.{◌≡◌, ◌+◌, ◌*◌, ◌≤◌, ◌++◌, length}
+use Rattle.report.specs.Lines.{line_text}
+use Rattle.report.specs.Pages.{head_fields, task_lines}
+use Rattle.report.specs.Reports.{page_of}
+use Rattle.report.proofs.report.Report.page.Given as goal
+
+abbrev pub invariant-loop-t : goal.invariant-loop-t
+invariant-loop-t l = record {
+  text : l.page ≡ line_text (head_fields (page_of l.self)) ++ task_lines (page_of l.self) l.t;
+  len : length l.page ≤ 61 + 121 * l.t;
+}
