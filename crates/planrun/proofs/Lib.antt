@@ -1,1 +1,3 @@
-mod Printing
+pub mod Settings
+pub mod Pages
+pub mod Blanks

@@ -1,61 +1,51 @@
-use Rattle.std.specs.Prelude.{◌≡◌, ℕ, zero, suc, ◌+◌, List, [], ◌++◌, codes, Ok, Err}
-use Rattle.model.specs.Schedule.{makespan}
-use Rattle.model.specs.Partial.{nothing, whole}
-use Rattle.model.specs.Bounds.{Bound, path_bound, load_bound, arrival_bound, larger}
+use Rattle.std.specs.Prelude.{◌≡◌, ℕ, List, ◌++◌, length, drop, Ok, Err, Result, replicate, ⊤}
+use Rattle.model.specs.Graph.{Graph}
+use Rattle.model.specs.Bounds.{joined_bound}
+use Rattle.model.specs.Nodes.{no_node}
 use Rattle.loader.specs.declared.faults.GraphFault.{GraphFault}
-use Rattle.refusal.specs.declared.refusal.Refusal.{Refusal}
-use Rattle.loader.specs.Meaning.{the_graph, description}
+use Rattle.loader.specs.Description.{Description, described}
 use Rattle.loader.specs.Parse.{parse}
 use Rattle.loader.specs.Refusals.{refusal_of}
-use Rattle.schedule.specs.Rows.{schedule_of}
-use Rattle.schedule.specs.ListSchedule.{listed}
-use Rattle.planrun.specs.Lines.{head_text, task_text, length_text}
-use Rattle.planrun.specs.declared.lines.HeadLine.{HeadLine}
-use Rattle.planrun.specs.declared.lines.LengthLine.{LengthLine}
-use Rattle.planrun.specs.declared.lines.TaskLine.{TaskLine}
-use Rattle.planrun.specs.declared.plan.Planned.{Planned}
+use Rattle.refusal.specs.declared.refusal.Refusal.{Refusal}
+use Rattle.search.specs.Runs.{Moment}
+use Rattle.solve.specs.Solving.{ended, would_settle}
+use Rattle.report.specs.Pages.{Page, report_text}
+use Rattle.page.specs.Pages.{page_of, Truthful}
+use Rattle.planrun.specs.declared.options.Options.{Options}
+use Rattle.planrun.specs.declared.plan_fault.PlanFault.{PlanFault}
+use Rattle.planrun.specs.declared.plan_fault.PlanFault.TheVariants.{Refused, Memory}
 
--- the path, load and arrival bounds joined
-abbrev pub joined : Bound
-joined = larger (larger path_bound load_bound) arrival_bound
+-- the page of the search that ends at a moment, settled if it can be
+abbrev pub page_at : Graph → Moment → Page
+page_at g m = page_of g (would_settle g m) m
 
--- the graph is the one that the file describes, the rows are its list schedule, the length is their makespan,
--- and the floor is the joined bound before any task is placed
-abbrev pub PlanOf : List ℕ → Planned → Type 0
-PlanOf bytes p =
-    (parse bytes ≡ Ok (description p.graph))
-    × (schedule_of p.schedule.rows ≡ whole (listed (the_graph p.graph) p.graph.tasks))
-    × (p.schedule.makespan ≡ makespan (the_graph p.graph) (schedule_of p.schedule.rows))
-    × (p.floor ≡ joined (the_graph p.graph) nothing)
+-- what a call answers, and a buffer before and after: this page was written to the front, and what it tells is so;
+-- where it ends with the word shortest, no feasible schedule is shorter
+abbrev pub Written : Graph → Moment → Result ℕ Refusal → List ℕ → List ℕ → Type 0
+Written g m r old new =
+    (r ≡ Ok (length (report_text (page_at g m))))
+    × (new ≡ report_text (page_at g m) ++ drop (length (report_text (page_at g m))) old)
+    × Truthful (would_settle g m) (page_at g m)
 
--- the file is refused, and this is its refusal
-abbrev pub RefusalOf : List ℕ → Refusal → Type 0
-RefusalOf bytes e = (f : GraphFault) × (parse bytes ≡ Err f) × (e ≡ refusal_of f)
+-- where the search of a graph ends: opened with as many blank nodes and list slots as the options say, and advanced once
+abbrev pub search_end : Graph → Options → Moment
+search_end g o = ended g joined_bound (replicate o.nodes no_node) o.nodes o.budget 1
 
--- the first line
-abbrev pub head_of : Planned → HeadLine
-head_of p = record { tasks = (the_graph p.graph).tasks; machines = (the_graph p.graph).machines }
+-- the page of the search of a graph, and what it tells is so
+abbrev pub TextOf : Graph → Options → List ℕ → Type 0
+TextOf g o text =
+    (text ≡ report_text (page_at g (search_end g o)))
+    × Truthful (would_settle g (search_end g o)) (page_at g (search_end g o))
 
--- the last line
-abbrev pub length_of : Planned → LengthLine
-length_of p = record { length = p.schedule.makespan; floor = p.floor }
+-- a plan of a run file: the page of the search of the graph that the file describes
+abbrev pub PlanOf : List ℕ → Options → List ℕ → Type 0
+PlanOf bytes o text = (d : Description) × (parse bytes ≡ Ok d) × TextOf (described d) o text
 
--- the line of task t
-abbrev pub line_of : Planned → ℕ → TaskLine
-line_of p t = record {
-  task = t;
-  machine = (schedule_of p.schedule.rows).machine t;
-  start = (schedule_of p.schedule.rows).start t;
-  finish = (schedule_of p.schedule.rows).start t + (the_graph p.graph).work t;
-}
+abbrev pub OutOfMemory : PlanFault → Type 0
+OutOfMemory (Refused e) = ⊥
+OutOfMemory (Memory e) = ⊤
 
--- the lines of the tasks below n, each ended by byte 10
-abbrev pub task_lines : Planned → ℕ → List ℕ
-task_lines p zero = []
-task_lines p (suc n) = task_lines p n ++ (task_text (line_of p n) ++ codes "\n")
-
--- what is printed of a plan, but for the byte 10 at its end
-unfoldable pub printed : Planned → List ℕ
-printed p =
-    head_text (head_of p) ++ (codes "\n"
-    ++ (task_lines p (the_graph p.graph).tasks ++ length_text (length_of p)))
+-- why there is none: the file is refused, and this is its refusal, or there is no memory
+abbrev pub FaultOf : List ℕ → PlanFault → Type 0
+FaultOf bytes (Refused e) = (f : GraphFault) × (parse bytes ≡ Err f) × (e ≡ refusal_of f)
+FaultOf bytes (Memory e) = ⊤

@@ -1,108 +1,128 @@
-ghost use Rattle.std.specs.Prelude.{◌≤◌, MatchResult, IfOk};
-ghost use Rattle.model.specs.Schedule.{Schedule, Feasible, makespan};
-ghost use Rattle.loader.specs.Meaning.{the_graph};
-ghost use Rattle.planrun.specs.Planning.{PlanOf, RefusalOf};
+ghost use Rattle.std.specs.Prelude.{◌≡◌, ◌≤◌, ◌++◌, Bool, None, length, drop, MatchResult, IfOk, Err, Ok, replicate};
+ghost use Rattle.model.specs.Bounds.{joined_bound};
+ghost use Rattle.model.specs.Nodes.{no_node};
+ghost use Rattle.loader.specs.declared.faults.GraphFault.{GraphFault};
+ghost use Rattle.loader.specs.Description.{described};
+ghost use Rattle.loader.specs.Meaning.{the_graph, description};
+ghost use Rattle.loader.specs.Parse.{parse};
+ghost use Rattle.loader.specs.Refusals.{refusal_of};
+ghost use Rattle.nodes.specs.Meaning.{the_nodes};
+ghost use Rattle.search.specs.Calls.{open_fault, answer_or, left_or};
+ghost use Rattle.search.specs.Promise.{InRun};
+ghost use Rattle.solve.specs.Solving.{end_of, ended, is_shortest};
+ghost use Rattle.page.specs.Pages.{text_of, page_fault};
+ghost use Rattle.planrun.specs.Planning.{Written, TextOf, OutOfMemory, PlanOf, FaultOf};
 
-use crate::lines::{HeadLine, LengthLine, TaskLine};
-use bounds::arrival_bound::ArrivalBound;
-use bounds::larger_of::LargerOf;
-use bounds::load_bound::LoadBound;
-use bounds::lower_bound::root_bound;
-use bounds::path_bound::PathBound;
+use crate::options::Options;
+use crate::plan_fault::PlanFault;
+use bounds::joined::JOINED;
 use loader::graph::TaskGraph;
 use loader::load::load;
-use partial::placement::Placement;
+use nodes::node::{Node, Status};
+use nodes::table::Table;
+use page::page::Page;
+use partial::partial::PartialSchedule;
+use queue::entry::Entry;
+use queue::entry_heap::EntryHeap;
+use queue::open_list::OpenList;
 use refusal::refusal::Refusal;
-use schedule::checked::{CheckedSchedule, checked_list_schedule};
-use std::fmt;
+use search::fault::PageFault;
+use solve::solve::{Solved, solve};
+use std::alloc::{AllocError, Global};
 
-// The three rules joined: path, load and arrival.
-const RULES: LargerOf<LargerOf<PathBound, LoadBound>, ArrivalBound> = LargerOf {
-    first: LargerOf {
-        first: PathBound,
-        second: LoadBound,
-    },
-    second: ArrivalBound,
-};
+// No page is longer.
+const ROOM: usize = 4400;
 
-// A graph, its checked list schedule, and a lower bound of every feasible schedule's makespan.
-#[derive(Clone, Copy)]
-pub struct Planned {
-    pub graph: TaskGraph,
-    pub schedule: CheckedSchedule,
-    pub floor: u64,
-}
-
-// The graph that a run file describes, with its list schedule and a lower bound; or the refusal of the file.
-pub fn plan_file(bytes: &[u8]) -> Result<Planned, Refusal>
-    ensures is { MatchResult result (λ p. PlanOf bytes.now p) (λ e. RefusalOf bytes.now e) }
-    ensures floor { IfOk result (λ p. (q : Schedule) → Feasible (the_graph p.graph) q
-        → p.floor ≤ makespan (the_graph p.graph) q) }
+// The graph that a run file describes, or the refusal of the file.
+fn read_graph(bytes: &[u8]) -> Result<TaskGraph, Refusal>
+    ensures { MatchResult result
+        (λ g. (parse bytes.now ≡ Ok (description g)) × (described (description g) ≡ the_graph g))
+        (λ e. (f : GraphFault) × (parse bytes.now ≡ Err f) × (e ≡ refusal_of f)) }
 {
     let mut graph = TaskGraph::new();
     load(&mut graph, bytes)?;
-    let schedule = checked_list_schedule(&graph)?;
-    let floor = root_bound(&RULES, &graph);
-    Ok(Planned {
-        graph,
-        schedule,
-        floor,
-    })
+    Ok(graph)
 }
 
-impl Planned {
-    ghost use Rattle.std.specs.Prelude.{◌≡◌, ◌<◌};
-    ghost use Rattle.loader.specs.Meaning.{the_graph};
-    ghost use Rattle.planrun.specs.Planning.{head_of, line_of, length_of};
-
-    // The first line.
-    fn head_line(&self) -> HeadLine
-        ensures { result ≡ head_of self.now }
-    {
-        HeadLine {
-            tasks: self.graph.tasks(),
-            machines: self.graph.machines(),
-        }
-    }
-
-    // The line of task t.
-    fn task_line(&self, t: usize) -> TaskLine
-        requires { t < (the_graph self.now.graph).tasks }
-        ensures { result ≡ line_of self.now t }
-    {
-        let Placement { machine, start } = self.schedule.rows[t];
-        let finish = u64::from(start) + u64::from(self.graph.work(t));
-        TaskLine {
-            task: t,
-            machine,
-            start,
-            finish,
-        }
-    }
-
-    // The last line.
-    fn length_line(&self) -> LengthLine
-        ensures { result ≡ length_of self.now }
-    {
-        LengthLine {
-            length: self.schedule.makespan,
-            floor: self.floor,
-        }
+// Writes the page of what a search came to: it ends with the word shortest if that is known.
+fn solved_page<L: OpenList>(
+    solved: &Solved,
+    g: &TaskGraph,
+    table: &Table,
+    list: &mut L,
+    page: &mut [u8],
+) -> Result<usize, PageFault>
+    ensures is { let m = end_of table.now (L.bag list.old) (L.limit list.old) solved.now in
+        result ≡ answer_or (length (text_of (the_graph g.now) (is_shortest solved.now) m))
+        (page_fault (the_graph g.now) (is_shortest solved.now) m (length page.old)) }
+    ensures page { let m = end_of table.now (L.bag list.old) (L.limit list.old) solved.now in
+        page.new ≡ left_or (text_of (the_graph g.now) (is_shortest solved.now) m
+        ++ drop (length (text_of (the_graph g.now) (is_shortest solved.now) m)) page.old) page.old
+        (page_fault (the_graph g.now) (is_shortest solved.now) m (length page.old)) }
+    ensures room { let m = end_of table.now (L.bag list.old) (L.limit list.old) solved.now in
+        (done : Bool) → InRun (the_graph g.now) done m
+        → length (text_of (the_graph g.now) (is_shortest solved.now) m) ≤ 4400 }
+{
+    match solved {
+        Solved::Shortest(settled) => settled.page(g, table, list, page),
+        Solved::Open(search) => search.page(g, table, list, page),
     }
 }
 
-// The lines of a plan, a line for each task between the first and the last.
-impl fmt::Display for Planned {
-    ghost use Rattle.std.specs.Prelude.{Some};
-    ghost use Rattle.planrun.specs.Planning.{printed};
+// Searches once with a budget, and writes the page of what it came to.
+fn search_page<L: OpenList>(
+    g: &TaskGraph,
+    table: &mut Table,
+    list: &mut L,
+    budget: u64,
+    page: &mut [u8],
+) -> Result<usize, Refusal>
+    requires opens { open_fault (the_nodes table.old) (L.bag list.old) (L.limit list.old) ≡ None }
+    requires room { 4400 ≤ length page.old }
+    ensures { Written (the_graph g.now)
+        (ended (the_graph g.now) joined_bound (the_nodes table.old) (L.limit list.old) budget 1)
+        result page.old page.new }
+{
+    let solved = solve(g, &JOINED, table, list, 1, budget)?;
+    let length = solved_page(&solved, g, table, list, page)?;
+    Ok(length)
+}
 
-    ghost output = { λ p. Some (printed p) };
+// As many nodes that hold nothing.
+fn blank_table(heap: Global, nodes: usize) -> Result<Table, AllocError>
+    ensures { IfOk result (λ t. the_nodes t ≡ replicate nodes no_node) }
+{
+    let blank = Node {
+        partial: PartialSchedule::empty(),
+        bound: 0,
+        status: Status::Expanded,
+    };
+    Table::new(heap, vec![in heap; blank; nodes]?)
+}
 
-    fn fmt<W: fmt::Write>(&self, f: &mut fmt::Formatter<W>) -> fmt::Result {
-        writeln!(f, "{}", self.head_line())?;
-        for t in 0..self.graph.tasks() {
-            writeln!(f, "{}", self.task_line(t))?;
-        }
-        write!(f, "{}", self.length_line())
-    }
+// The page of the plan of a graph, or no memory.
+fn plan_graph(heap: Global, g: &TaskGraph, options: Options) -> Result<Vec<u8>, PlanFault>
+    ensures { MatchResult result (λ page. TextOf (the_graph g.now) options page.items) OutOfMemory }
+{
+    let mut table = blank_table(heap, options.nodes)?;
+    let mut slots = vec![in heap; Entry { bound: 0, node: 0 }; options.nodes]?;
+    let mut list = EntryHeap::start(slots.as_mut_slice());
+    let mut page = vec![in heap; 0u8; ROOM]?;
+    let length = search_page(
+        g,
+        &mut table,
+        &mut list,
+        options.budget,
+        page.as_mut_slice(),
+    )?;
+    page.truncate(length);
+    Ok(page)
+}
+
+// The page of the plan of a run file, or why there is none.
+pub fn plan_file(heap: Global, bytes: &[u8], options: Options) -> Result<Vec<u8>, PlanFault>
+    ensures { MatchResult result (λ page. PlanOf bytes.now options page.items) (FaultOf bytes.now) }
+{
+    let graph = read_graph(bytes)?;
+    plan_graph(heap, &graph, options)
 }
