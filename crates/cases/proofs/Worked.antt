@@ -3,9 +3,14 @@ use Rattle.model.specs.Range.{any, first}
 use Rattle.model.specs.Graph.{level}
 use Rattle.model.specs.Partial.{append}
 use Rattle.model.specs.NormalForm.{normal_form}
+use Rattle.model.specs.Children.{tried, choices}
+use Rattle.model.specs.Nodes.{is_duplicate, is_held}
+use Rattle.model.specs.Soundness.{is_orderly, is_complete}
 use Rattle.loader.specs.View.{leads}
 use Rattle.schedule.specs.ListSchedule.{listed, next_task, earliest}
-use Rattle.cases.specs.Table.{ExampleRead, Levels, ListSchedule, Bounds, Checks, Overlaps, Refused}
+use Rattle.astar.specs.Expansion.{visited, expanded}
+use Rattle.astar.specs.Advance.{advanced}
+use Rattle.cases.specs.Table.{ExampleRead, Levels, ListSchedule, Bounds, Checks, Overlaps, Refused, Searches, ExampleSearched}
 
 pub example-read : ExampleRead
 unfolding any first leads
@@ -34,3 +39,11 @@ overlaps = (refl, refl)
 pub refused : Refused
 unfolding any first leads
 refused = (refl, refl)
+
+pub searches : Searches
+unfolding any first level listed next_task earliest normal_form append tried choices is_duplicate is_held is_orderly is_complete visited expanded advanced
+searches = ((refl, refl, refl), refl, (refl, refl, refl, refl))
+
+pub example-searched : ExampleSearched
+unfolding any first level listed next_task earliest normal_form append tried choices is_duplicate is_held is_orderly is_complete visited expanded advanced
+example-searched = (refl, refl, refl, refl)

@@ -1,7 +1,8 @@
-use Rattle.std.specs.Prelude.{◌≡◌, ℕ, List, [], ◌∷◌, Ok, Err, Result}
+use Rattle.std.specs.Prelude.{◌≡◌, ℕ, List, [], ◌∷◌, Ok, Err, Result, replicate}
 use Rattle.model.specs.Graph.{Graph, level}
 use Rattle.model.specs.Partial.{Partial, nothing, whole}
-use Rattle.model.specs.Bounds.{path_bound, load_bound, arrival_bound}
+use Rattle.model.specs.Bounds.{path_bound, load_bound, arrival_bound, joined_bound}
+use Rattle.model.specs.Nodes.{no_node}
 use Rattle.model.specs.Schedule.{makespan}
 use Rattle.refusal.specs.declared.layer.Layer.{Layer}
 use Rattle.refusal.specs.declared.refusal.Refusal.{Refusal}
@@ -15,6 +16,12 @@ use Rattle.partial.specs.declared.placement.Placement.{Placement}
 use Rattle.schedule.specs.Check.{checked}
 use Rattle.schedule.specs.ListSchedule.{listed}
 use Rattle.schedule.specs.Refusals.{check_refusal}
+use Rattle.astar.specs.declared.outcome.Outcome.{Outcome}
+use Rattle.astar.specs.declared.outcome.Outcome.TheVariants.{Met, Paused, Full}
+use Rattle.astar.specs.States.{SearchState, best_length}
+use Rattle.astar.specs.Opening.{sizes_of, opened}
+use Rattle.astar.specs.Advance.{advanced}
+use Rattle.astar.specs.Laws.{floor}
 
 abbrev transfer : ℕ → ℕ → ℕ → Transfer
 transfer a b c = record { from = a; to = b; cost = c }
@@ -108,3 +115,43 @@ abbrev pub Refused : Type 0
 Refused =
     (lifted refusal_of (parse []) ≡ Err (refused 1 0 Bytes))
     × (lifted refusal_of (parse there_and_back) ≡ Err (refused 8 8 GraphLayer))
+
+-- one task of work 5 on two machines
+abbrev pub single : Description
+single = record { tasks = 1; machines = 2; works = 5 ∷ []; transfers = [] }
+
+-- a search of a graph with n blank nodes and the three rules joined, opened and advanced once with budget k
+abbrev searched : Description → ℕ → ℕ → SearchState × Outcome
+searched d n k =
+    let ns = replicate n no_node in
+    advanced (described d) joined_bound (sizes_of (described d) ns) n k
+    (opened (described d) joined_bound (listed (described d) d.tasks) ns)
+
+-- the one schedule is as long as its bound; with two nodes there is no room for a child; with as many as the program gives
+-- the example is searched to its end
+abbrev pub Searches : Type 0
+Searches =
+    (((searched single 256 10000).1 ≡ Met)
+    × ((searched single 256 10000).0.tally.expanded ≡ 0)
+    × (best_length (searched single 256 10000).0 ≡ 5))
+    × ((searched example 2 0).1 ≡ Paused)
+    × (((searched example 2 1).1 ≡ Full)
+    × ((searched example 2 1).0.tally.expanded ≡ 0)
+    × (floor (searched example 2 1).0 ≡ 7)
+    × (best_length (searched example 2 1).0 ≡ 9))
+
+abbrev pub ExampleSearched : Type 0
+ExampleSearched =
+    ((searched example 256 10000).1 ≡ Met)
+    × ((searched example 256 10000).0.tally
+    ≡ record {
+      expanded = 5;
+      generated = 11;
+      stored = 6;
+      duplicates = 0;
+      pruned = 3;
+      complete = 2;
+      waiting = 2;
+    })
+    × (floor (searched example 256 10000).0 ≡ 8)
+    × (best_length (searched example 256 10000).0 ≡ 8)

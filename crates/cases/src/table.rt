@@ -1,4 +1,4 @@
-ghost use Rattle.cases.specs.Table.{ExampleRead, Levels, ListSchedule, Bounds, Checks, Overlaps, Refused};
+ghost use Rattle.cases.specs.Table.{ExampleRead, Levels, ListSchedule, Bounds, Checks, Overlaps, Refused, Searches, ExampleSearched};
 
 // The worked cases, as equalities that the checker computes.
 pub fn worked_cases()
@@ -9,4 +9,6 @@ pub fn worked_cases()
     ensures checks { Checks }
     ensures overlaps { Overlaps }
     ensures refused { Refused }
+    ensures searches { Searches }
+    ensures searched { ExampleSearched }
 {}
