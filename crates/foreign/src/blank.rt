@@ -1,0 +1,28 @@
+use nodes::node::{Node, Status};
+use nodes::table::Table;
+use partial::partial::PartialSchedule;
+use partial::placement::Placement;
+use queue::entry::Entry;
+use std::alloc::{AllocError, Global};
+
+// What stands in rows and slots before they are written.
+pub(crate) const ROW: Placement = Placement {
+    machine: 0,
+    start: 0,
+};
+
+pub(crate) const SLOT: Entry = Entry { bound: 7, node: 77 };
+
+// What stands in nodes before they are written.
+pub(crate) fn node() -> Node {
+    Node {
+        partial: PartialSchedule::empty(),
+        bound: 0,
+        status: Status::Expanded,
+    }
+}
+
+// A table of so many nodes.
+pub(crate) fn table(heap: Global, nodes: usize) -> Result<Table, AllocError> {
+    Table::new(heap, vec![in heap; node(); nodes]?)
+}
