@@ -21,7 +21,7 @@ import tempfile
 ROOT = os.path.dirname(os.path.dirname(os.path.abspath(__file__)))
 USES = "chain search astar nodes bounds schedule queue bag partial loader refusal model anyhow"
 SIZES = ["1000", "10000", "100000"]
-# Tasks, machines, transfers and the seed of each graph.
+# Tasks, machines and transfers of each graph, and where its random generator starts.
 GRAPHS = [(32, 3, 64, 1), (32, 4, 64, 1), (32, 8, 64, 1), (32, 8, 128, 3), (32, 4, 0, 1)]
 
 
@@ -29,9 +29,9 @@ def record(kind, *payload):
     return struct.pack(f"<{2 + len(payload)}H", 2 * len(payload), kind, *payload)
 
 
-def run_file(tasks, machines, transfers, seed):
+def run_file(tasks, machines, transfers, start):
     """A graph as a run file. Works lie between 1 and 100, costs between 0 and 100."""
-    draw = random.Random(seed)
+    draw = random.Random(start)
     pairs = [(a, b) for a in range(tasks) for b in range(a + 1, tasks)]
     parts = [record(1, tasks, machines)]
     parts += [record(2, draw.randint(1, 100)) for _ in range(tasks)]
@@ -61,7 +61,7 @@ def main():
     with tempfile.TemporaryDirectory() as room:
         program = build(room)
         for graph in GRAPHS:
-            print("tasks {} machines {} transfers {} seed {}".format(*graph))
+            print("tasks {} machines {} transfers {} start {}".format(*graph))
             nanos, told = collections.defaultdict(list), {}
             for _ in range(runs):
                 done = subprocess.run([program, *SIZES], input=run_file(*graph), capture_output=True, check=True)
