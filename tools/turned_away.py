@@ -48,8 +48,8 @@ def main():
                 print(output)
                 sys.exit(f"not turned away as {edit.name} says")
             print(f"turned away: {edit.stem}: {fields(edit)['says']}")
-    if len(edits) != 2:
-        sys.exit("two programs are to be turned away")
+    if len(edits) != 3:
+        sys.exit("three programs are to be turned away")
 
 
 if __name__ == "__main__":

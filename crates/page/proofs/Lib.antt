@@ -1,2 +1,4 @@
+pub mod Digits
+pub mod Joining
 pub mod Texts
 pub mod Telling

@@ -17,8 +17,8 @@ use Rattle.search.specs.Runs.{Moment}
 use Rattle.search.specs.Promise.{floor, InRun}
 use Rattle.search.specs.Promise as promise
 use Rattle.search.proofs.Calls.{promised-to}
-use Rattle.report.specs.Pages.{report_text}
-use Rattle.page.specs.Pages.{closing_of, page_of, text_of, short_fault, page_fault, Truthful}
+use Rattle.page.specs.Texts.{report_text}
+use Rattle.page.specs.Pages.{closing_of, page_of, text_of, short_fault, page_fault, Truthful, EndsTruly}
 use Rattle.page.proofs.Texts.{text-agrees, rows-agree}
 
 -- What a page tells, by the answers of the search.
@@ -87,3 +87,10 @@ module _ (g : TaskGraph) (settled done : Bool) (m : Moment) (r : InRun (the_grap
       → length (text_of (the_graph g) settled m) ≤ room
       → (result ≡ Ok (length (text_of (the_graph g) settled m))) × Truthful done (page_of (the_graph g) settled m)
   run-told room result is h = (is ∙ ap (answer_or _) (nothing-refused room h), truthful)
+
+-- in a run a search that goes on ends with open, and a settled one with shortest, which is so
+pub ends-open : (g : TaskGraph) (m : Moment) → InRun (the_graph g) false m → EndsTruly false (page_of (the_graph g) false m)
+ends-open g m r = record { word = ((λ e. cc), (λ e. cc)); shortest = λ e. cc }
+
+pub ends-shortest : (g : TaskGraph) (m : Moment) → InRun (the_graph g) true m → EndsTruly true (page_of (the_graph g) true m)
+ends-shortest g m r = record { word = ((λ e. refl), (λ e. refl)); shortest = λ e. (truthful g true true m r).shortest refl }

@@ -8,7 +8,7 @@ use Rattle.model.specs.Partial.{Partial, whole}
 use Rattle.partial.specs.declared.placement.Placement.{Placement}
 use Rattle.schedule.specs.Rows.{blank, schedule_of}
 use Rattle.search.specs.Calls.{row_of, with_rows}
-use Rattle.report.specs.Pages.{Page, task_lines, report_text}
+use Rattle.page.specs.Texts.{Page, task_lines, report_text}
 
 -- The text of a page reads the schedule at the graph's tasks alone.
 

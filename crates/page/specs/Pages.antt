@@ -1,4 +1,4 @@
-use Rattle.std.specs.Prelude.{◌≡◌, ℕ, ◌≤◌, Bool, true, false, if◌then◌else◌, nat_lt, List, length, Some, None, Option}
+use Rattle.std.specs.Prelude.{◌≡◌, ℕ, ◌≤◌, ◌↔◌, Bool, true, false, if◌then◌else◌, nat_lt, List, length, Some, None, Option}
 use Rattle.model.specs.Graph.{Graph}
 use Rattle.model.specs.Schedule.{Schedule, Feasible, makespan}
 use Rattle.search.specs.declared.fault.SearchFault.TheVariants.{Foreign}
@@ -8,9 +8,9 @@ use Rattle.search.specs.Calls.{has_best}
 use Rattle.search.specs.Runs.{Moment}
 use Rattle.search.specs.Promise.{floor, best, IsShortest}
 use Rattle.search.specs.Promise as promise
-use Rattle.report.specs.declared.closing.Closing.{Closing}
-use Rattle.report.specs.declared.closing.Closing.TheVariants.{Open, Shortest}
-use Rattle.report.specs.Pages.{Page, report_text}
+use Rattle.page.specs.declared.closing.Closing.{Closing}
+use Rattle.page.specs.declared.closing.Closing.TheVariants.{Open, Shortest}
+use Rattle.page.specs.Texts.{Page, report_text}
 
 -- how the page of a search ends, settled or not
 abbrev pub closing_of : Bool → Closing
@@ -50,3 +50,8 @@ pub record Truthful (done : Bool) (p : Page) : Type 0 where
   pub feasible : Feasible p.graph p.schedule
   pub as_long : makespan p.graph p.schedule ≡ p.length
   pub shortest : done ≡ true → IsShortest p.graph p.schedule
+
+-- the word that ends a page: it is shortest exactly where the search is settled, and then the schedule is shortest
+pub record EndsTruly (settled : Bool) (p : Page) : Type 0 where
+  pub word : (p.closing ≡ Shortest) ↔ (settled ≡ true)
+  pub shortest : p.closing ≡ Shortest → IsShortest p.graph p.schedule

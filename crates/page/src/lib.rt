@@ -1,6 +1,11 @@
 #![tactic(auto)]
 
+mod closing;
 mod open_page;
 pub mod page;
+mod report;
+mod sheet;
+mod short_buffer;
 mod shortest_page;
+mod word;
 mod write;

@@ -5,8 +5,8 @@ use crate::write::write;
 use loader::graph::TaskGraph;
 use nodes::table::Table;
 use queue::open_list::OpenList;
-use report::closing::Closing;
-use report::report::Report;
+use crate::closing::Closing;
+use crate::report::Report;
 use search::fault::PageFault;
 use search::search::Search;
 

@@ -4,7 +4,7 @@ ghost use Rattle.search.specs.declared.search.Search.{Search};
 ghost use Rattle.search.specs.Calls.{answer_or, left_or};
 ghost use Rattle.search.specs.States.{moment};
 ghost use Rattle.search.specs.Promise.{Promised, InRun};
-ghost use Rattle.page.specs.Pages.{page_of, text_of, page_fault, Truthful};
+ghost use Rattle.page.specs.Pages.{page_of, text_of, page_fault, Truthful, EndsTruly};
 
 use loader::graph::TaskGraph;
 use nodes::table::Table;
@@ -51,6 +51,10 @@ pub trait Page {
             → length (text_of (the_graph g.now) settled m) ≤ length buffer.old
             → (result ≡ Ok (length (text_of (the_graph g.now) settled m)))
             × Truthful done (page_of (the_graph g.now) settled m) }
+        ensures ending { let m = moment (counts self.now) table.now (L.bag list.old)
+            (L.limit list.old) in
+            InRun (the_graph g.now) settled m
+            → EndsTruly settled (page_of (the_graph g.now) settled m) }
         ensures room { let m = moment (counts self.now) table.now (L.bag list.old)
             (L.limit list.old) in
             (done : Bool) → InRun (the_graph g.now) done m

@@ -1,10 +1,10 @@
 ghost use Rattle.std.specs.Prelude.{◌≡◌, ◌≤◌, ◌++◌, length, drop};
 ghost use Rattle.search.specs.Calls.{answer_or, left_or};
-ghost use Rattle.report.specs.Pages.{report_text};
-ghost use Rattle.report.specs.Reports.{page_of};
+ghost use Rattle.page.specs.Texts.{report_text};
+ghost use Rattle.page.specs.Reports.{page_of};
 ghost use Rattle.page.specs.Pages.{short_fault};
 
-use report::report::Report;
+use crate::report::Report;
 use search::fault::PageFault;
 
 // Writes a report to the front of the buffer and answers its length, unless the buffer is too short.

@@ -10,7 +10,7 @@ use Rattle.refusal.specs.declared.refusal.Refusal.{Refusal}
 use Rattle.search.specs.Calls.{open_fault}
 use Rattle.search.specs.Runs.{Moment}
 use Rattle.solve.specs.Solving.{ended, would_settle}
-use Rattle.report.specs.Pages.{report_text}
+use Rattle.page.specs.Texts.{report_text}
 use Rattle.page.specs.Pages.{Truthful}
 use Rattle.planrun.specs.declared.options.Options.{Options}
 use Rattle.planrun.specs.Planning.{page_at, Written, TextOf, search_end}

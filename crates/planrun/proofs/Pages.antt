@@ -15,7 +15,7 @@ use Rattle.search.specs.Promise.{InRun}
 use Rattle.solve.specs.declared.solve.Solved.{Solved}
 use Rattle.solve.specs.declared.solve.Solved.TheVariants.{Shortest, Open}
 use Rattle.solve.specs.Solving.{end_of, is_shortest, would_settle, Solves}
-use Rattle.report.specs.Pages.{report_text}
+use Rattle.page.specs.Texts.{report_text}
 use Rattle.page.specs.Pages.{page_of, text_of, page_fault, Truthful}
 use Rattle.planrun.specs.Planning.{page_at}
 use Rattle.page.proofs.Telling.{nothing-refused, truthful}

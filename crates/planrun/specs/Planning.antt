@@ -9,7 +9,7 @@ use Rattle.loader.specs.Refusals.{refusal_of}
 use Rattle.refusal.specs.declared.refusal.Refusal.{Refusal}
 use Rattle.search.specs.Runs.{Moment}
 use Rattle.solve.specs.Solving.{ended, would_settle}
-use Rattle.report.specs.Pages.{Page, report_text}
+use Rattle.page.specs.Texts.{Page, report_text}
 use Rattle.page.specs.Pages.{page_of, Truthful}
 use Rattle.planrun.specs.declared.options.Options.{Options}
 use Rattle.planrun.specs.declared.plan_fault.PlanFault.{PlanFault}

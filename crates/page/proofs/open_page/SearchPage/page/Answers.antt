@@ -7,7 +7,7 @@ use Rattle.search.specs.Runs.{Moment}
 use Rattle.search.specs.States.{moment}
 use Rattle.search.proofs.Calls.{promised-to}
 use Rattle.page.specs.declared.page.TheConstants.{BLANK}
-use Rattle.page.proofs.Telling.{never, roomy, page-told, run-told}
+use Rattle.page.proofs.Telling.{never, roomy, page-told, run-told, ends-open}
 use Rattle.page.proofs.open_page.SearchPage.page.Goals as goal
 
 pub returns-in_err-length-clause-run : goal.returns-in_err-length-clause-run
@@ -24,6 +24,7 @@ returns g c =
       same = search rules;
       run = λ done r h. run-told c.args.g.now false done _ r (length c.args.buffer.now) _ told.0 h;
       room = λ done r. roomy _ false m _ BLANK _ _ _ best c.best.ensures.rows low c.tally.ensures c.write.ensures.room;
+      ending = ends-open c.args.g.now m;
       promise = promised-to c.args.g.now;
     }
 
@@ -36,3 +37,9 @@ pub returns-in_err-floor-clause-room : goal.returns-in_err-floor-clause-room
 returns-in_err-floor-clause-room g c done r =
     let again = subst (λ l. InRun (the_graph c.args.g.now) done (moment c.args.self.now c.args.table.now (g.L.OpenList.bag l) (g.L.OpenList.limit l))) (sym c.best.ensures.same) r in
     never _ _ (sym (c.floor.ensures.run done again).0 ∙ c.in_err-floor.was)
+
+pub returns-in_err-length-clause-ending : goal.returns-in_err-length-clause-ending
+returns-in_err-length-clause-ending g c r = ends-open c.args.g.now _ r
+
+pub returns-in_err-floor-clause-ending : goal.returns-in_err-floor-clause-ending
+returns-in_err-floor-clause-ending g c r = ends-open c.args.g.now _ r

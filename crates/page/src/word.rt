@@ -1,6 +1,6 @@
 // The words of a page.
 #[derive(Clone, Copy, PartialEq, Eq, Debug)]
-pub enum Word {
+pub(crate) enum Word {
     Tasks,
     Machines,
     Task,
@@ -43,10 +43,10 @@ const WORDS: [&[u8]; 17] = [
 
 impl Word {
     ghost use Rattle.std.specs.Prelude.{◌≡◌, ◌≤◌, length};
-    ghost use Rattle.report.specs.Words.{word_text};
+    ghost use Rattle.page.specs.Words.{word_text};
 
     // The bytes of the word.
-    pub fn text(self) -> &'static [u8]
+    pub(crate) fn text(self) -> &'static [u8]
         ensures is { result.now ≡ word_text self }
         ensures short { length result.now ≤ 8 }
     {

@@ -1,5 +1,5 @@
 use Rattle.std.proofs.Common.{◌≡◌, ◌++◌, take}
-use Rattle.report.proofs.sheet.Sheet.word.Given as goal
+use Rattle.page.proofs.sheet.Sheet.word.Given as goal
 
 abbrev pub invariant-loop-byte : goal.invariant-loop-byte
 invariant-loop-byte l = l.self ≡ l.initial.self ++ take l.byte-index l.byte-items

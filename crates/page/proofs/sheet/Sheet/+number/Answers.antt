@@ -1,8 +1,8 @@
 use Rattle.std.proofs.Common.{rules, ◌∙◌, length-append}
 use Rattle.std.proofs.lemmas.Fmt.{decimal_digit}
-use Rattle.report.proofs.Digits.{length-decimal_step, length-decimal_digit, last-digit}
-use Rattle.report.proofs.sheet.Sheet.+number.Goals as goal
-use Rattle.report.proofs.sheet.Sheet.+number.Goals.{then-n-ge10, else-n-ge10}
+use Rattle.page.proofs.Digits.{length-decimal_step, length-decimal_digit, last-digit}
+use Rattle.page.proofs.sheet.Sheet.+number.Goals as goal
+use Rattle.page.proofs.sheet.Sheet.+number.Goals.{then-n-ge10, else-n-ge10}
 
 pub number-requires : goal.number-requires
 number-requires t c = search (rules, length-decimal_step)

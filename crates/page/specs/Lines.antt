@@ -1,7 +1,7 @@
 use Rattle.std.specs.Prelude.{ℕ, List, [], ◌∷◌, ◌++◌, codes, decimal}
 use Rattle.std.specs.List.{join_by}
-use Rattle.report.specs.declared.word.Word.{Word}
-use Rattle.report.specs.Words.{word_text}
+use Rattle.page.specs.declared.word.Word.{Word}
+use Rattle.page.specs.Words.{word_text}
 
 -- a word and the number after it
 abbrev pub field_text : Word × ℕ → List ℕ

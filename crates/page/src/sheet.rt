@@ -1,7 +1,7 @@
 ghost use Rattle.std.specs.Prelude.{◌≡◌, ℕ, ◌+◌, ◌*◌, ◌<◌, ◌≤◌, ◌↔◌, List, [], ◌∷◌, ◌++◌, length, take, drop, decimal, IsOk, MatchResult};
-ghost use Rattle.report.specs.declared.sheet.TheConstants.{ROOM};
-ghost use Rattle.report.specs.Lines.{field_text, line_text};
-ghost use Rattle.report.specs.Words.{word_text};
+ghost use Rattle.page.specs.declared.sheet.TheConstants.{ROOM};
+ghost use Rattle.page.specs.Lines.{field_text, line_text};
+ghost use Rattle.page.specs.Words.{word_text};
 
 use crate::short_buffer::ShortBuffer;
 use crate::word::Word;

@@ -1,8 +1,8 @@
 use Rattle.std.proofs.Common.{◌≡◌, ◌+◌, ◌*◌, ◌≤◌, ◌++◌, length}
-use Rattle.report.specs.Lines.{line_text}
-use Rattle.report.specs.Pages.{head_fields, task_lines}
-use Rattle.report.specs.Reports.{page_of}
-use Rattle.report.proofs.report.Report.page.Given as goal
+use Rattle.page.specs.Lines.{line_text}
+use Rattle.page.specs.Texts.{head_fields, task_lines}
+use Rattle.page.specs.Reports.{page_of}
+use Rattle.page.proofs.report.Report.page.Given as goal
 
 abbrev pub invariant-loop-t : goal.invariant-loop-t
 invariant-loop-t l = record {

@@ -2,11 +2,11 @@ use Rattle.std.specs.Prelude.{ℕ, zero, suc, ◌+◌, List, [], ◌∷◌, ◌+
 use Rattle.model.specs.Graph.{Graph}
 use Rattle.model.specs.Schedule.{Schedule}
 use Rattle.astar.specs.declared.tally.Tally.{Tally}
-use Rattle.report.specs.declared.word.Word.{Word}
-use Rattle.report.specs.declared.word.Word.TheVariants.{Tasks, Machines, Task, Machine, Start, Finish, Length, Floor, Taken, Made, Put, Twins, Cut, Complete, Waiting}
-use Rattle.report.specs.declared.closing.Closing.{Closing}
-use Rattle.report.specs.Words.{word_text, closing_word}
-use Rattle.report.specs.Lines.{line_text}
+use Rattle.page.specs.declared.word.Word.{Word}
+use Rattle.page.specs.declared.word.Word.TheVariants.{Tasks, Machines, Task, Machine, Start, Finish, Length, Floor, Taken, Made, Put, Twins, Cut, Complete, Waiting}
+use Rattle.page.specs.declared.closing.Closing.{Closing}
+use Rattle.page.specs.Words.{word_text, closing_word}
+use Rattle.page.specs.Lines.{line_text}
 
 -- what a page tells
 pub record Page : Type 0 where

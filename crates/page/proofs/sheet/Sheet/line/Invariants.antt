@@ -1,7 +1,7 @@
 use Rattle.std.proofs.Common.{◌≡◌, ◌+◌, ◌*◌, ◌≤◌, ◌++◌, length, take, codes}
 use Rattle.std.specs.List.{join_by}
-use Rattle.report.specs.Lines.{field_text}
-use Rattle.report.proofs.sheet.Sheet.line.Given as goal
+use Rattle.page.specs.Lines.{field_text}
+use Rattle.page.proofs.sheet.Sheet.line.Given as goal
 
 abbrev pub invariant-loop-i : goal.invariant-loop-i
 invariant-loop-i l = record {

@@ -1,7 +1,7 @@
 use Rattle.loader.specs.Meaning.{the_graph}
 use Rattle.schedule.specs.Rows.{schedule_of}
-use Rattle.report.specs.declared.report.Report.{Report}
-use Rattle.report.specs.Pages.{Page}
+use Rattle.page.specs.declared.report.Report.{Report}
+use Rattle.page.specs.Texts.{Page}
 
 -- the page of a report
 abbrev pub page_of : Report → Page

@@ -15,20 +15,20 @@ const BLANK: Placement = Placement {
 // What a page tells of a search: the graph, the rows of a schedule for its tasks (a missing row counts as machine 0,
 // start 0), its length, the floor, what the search has done, and how the page ends.
 #[derive(Clone, Copy)]
-pub struct Report<'a> {
-    pub graph: &'a TaskGraph,
-    pub rows: &'a [Placement],
-    pub length: u64,
-    pub floor: u64,
-    pub tally: Tally,
-    pub closing: Closing,
+pub(crate) struct Report<'a> {
+    pub(crate) graph: &'a TaskGraph,
+    pub(crate) rows: &'a [Placement],
+    pub(crate) length: u64,
+    pub(crate) floor: u64,
+    pub(crate) tally: Tally,
+    pub(crate) closing: Closing,
 }
 
 impl Report<'_> {
     ghost use Rattle.std.specs.Prelude.{◌≡◌, ◌≤◌, ◌↔◌, ◌++◌, length, drop, slice_index_or, IsOk, MatchResult};
     ghost use Rattle.schedule.specs.Rows.{blank};
-    ghost use Rattle.report.specs.Pages.{head_fields, task_fields, length_fields, tally_fields, report_text};
-    ghost use Rattle.report.specs.Reports.{page_of};
+    ghost use Rattle.page.specs.Texts.{head_fields, task_fields, length_fields, tally_fields, report_text};
+    ghost use Rattle.page.specs.Reports.{page_of};
 
     // The row of task t, blank past the last one.
     fn row(&self, t: usize) -> Placement
@@ -85,7 +85,7 @@ impl Report<'_> {
     }
 
     // The whole page.
-    #[tactic(auto, using(std::proofs::lemmas::Grind::common_steps), unfolding(crate::specs::Pages::report_text))]
+    #[tactic(auto, using(std::proofs::lemmas::Grind::common_steps), unfolding(crate::specs::Texts::report_text))]
     fn page(&self) -> Sheet
         ensures { result ≡ report_text (page_of self.now) }
     {
@@ -103,7 +103,7 @@ impl Report<'_> {
 
     // Writes the page to the front of the buffer and answers its length; what lies behind it stays. A buffer that is
     // too short is left as it was; 4,400 bytes are always enough.
-    pub fn write(&self, buffer: &mut [u8]) -> Result<usize, ShortBuffer>
+    pub(crate) fn write(&self, buffer: &mut [u8]) -> Result<usize, ShortBuffer>
         ensures fits { IsOk result ↔ (length (report_text (page_of self.now)) ≤ length buffer.old) }
         ensures is { MatchResult result
             (λ n. (n ≡ length (report_text (page_of self.now)))

@@ -1,9 +1,9 @@
 use Rattle.std.proofs.Common.{arith, codes}
 use Rattle.std.proofs.lemmas.Grind.{common_steps}
-use Rattle.report.specs.Lines.{field_text}
-use Rattle.report.proofs.Joining.{joined_first, joined_more}
-use Rattle.report.proofs.sheet.Sheet.line.Goals as goal
-use Rattle.report.proofs.sheet.Sheet.line.Goals.{then-i-gt0, else-i-gt0}
+use Rattle.page.specs.Lines.{field_text}
+use Rattle.page.proofs.Joining.{joined_first, joined_more}
+use Rattle.page.proofs.sheet.Sheet.line.Goals as goal
+use Rattle.page.proofs.sheet.Sheet.line.Goals.{then-i-gt0, else-i-gt0}
 
 pub loop-i-preserved : goal.loop-i-preserved
 loop-i-preserved c = elim c.if-i-gt0.branch [

@@ -1,3 +1,3 @@
 // The buffer has less room than the text needs.
 #[derive(Clone, Copy, PartialEq, Eq, Debug)]
-pub struct ShortBuffer;
+pub(crate) struct ShortBuffer;

@@ -1,8 +1,8 @@
 use Rattle.std.specs.Prelude.{ℕ, List, codes}
-use Rattle.report.specs.declared.word.Word.{Word}
-use Rattle.report.specs.declared.word.Word.TheVariants as words
-use Rattle.report.specs.declared.closing.Closing.{Closing}
-use Rattle.report.specs.declared.closing.Closing.TheVariants as closings
+use Rattle.page.specs.declared.word.Word.{Word}
+use Rattle.page.specs.declared.word.Word.TheVariants as words
+use Rattle.page.specs.declared.closing.Closing.{Closing}
+use Rattle.page.specs.declared.closing.Closing.TheVariants as closings
 
 -- the bytes of each word
 abbrev pub word_text : Word → List ℕ

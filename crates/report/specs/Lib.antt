@@ -1,4 +1,0 @@
-pub mod Words
-pub mod Lines
-pub mod Pages
-pub mod Reports
