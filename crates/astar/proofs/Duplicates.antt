@@ -37,6 +37,17 @@ pub duplicate-refl : (c : Partial) → is_duplicate c c ≡ true
 unfolding is_duplicate
 duplicate-refl c = every-from 32 (agree_on c c) (λ t h. agrees-itself c t)
 
+agrees-back : (c d : Partial) (t : ℕ) → agree_on c d t ≡ true → agree_on d c t ≡ true
+agrees-back c d t e = go (agrees-alike c d t e) (d.placed t) refl
+  where
+    go : Alike c d t → (b : Bool) → d.placed t ≡ b → agree_on d c t ≡ true
+    go a true p = let m = a.1 p in rw (p, a.0 ∙ p, eq-eqb (d.machine t) (c.machine t) (sym m.0), eq-eqb (d.start t) (c.start t) (sym m.1))
+    go a false p = rw (p, a.0 ∙ p)
+
+pub duplicate-back : (c d : Partial) → is_duplicate c d ≡ true → is_duplicate d c ≡ true
+unfolding is_duplicate
+duplicate-back c d e = every-from 32 (agree_on d c) (λ t h. agrees-back c d t (every-all 32 (agree_on c d) e t h))
+
 -- duplicates are the same in every task of the graph
 pub duplicate-same : (g : Graph) → Lawful g → (c d : Partial) → is_duplicate c d ≡ true → Same g c d
 unfolding is_duplicate

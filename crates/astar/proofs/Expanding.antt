@@ -15,7 +15,7 @@ use Rattle.queue.specs.declared.entry.Entry.{Entry}
 use Rattle.astar.specs.States.{SearchState, used, best_length, best_schedule, expanded_node}
 use Rattle.astar.specs.Expansion.{visited_by, taken, expanded}
 use Rattle.astar.specs.Advance.{next_node}
-use Rattle.astar.specs.Invariant.{InUse, partial_at, Visited, Grown, Listed, Counted, All, Invariant, IsRight}
+use Rattle.astar.specs.Invariant.{InUse, partial_at, Visited, Grown, Listed, Counted, Apart, All, Invariant, IsRight}
 use Rattle.astar.specs.Laws.{least_bound, floor, ExpansionKeeps}
 use Rattle.astar.proofs.Children.{chosen-reachable, chosen-tasks, chosen-under}
 use Rattle.astar.proofs.Visits.{expansion-visits}
@@ -23,6 +23,7 @@ use Rattle.astar.proofs.Growth.{BestNode, Onward, grown-onward}
 use Rattle.astar.proofs.Visiting.{Step, visit-step}
 use Rattle.astar.proofs.Listing.{listed-taken, listed-visit}
 use Rattle.astar.proofs.Counts.{counted-taken, counted-visit, size-visit, used-visit, low-visit}
+use Rattle.astar.proofs.Apart.{apart-on, apart-visit}
 use Rattle.astar.proofs.Floor.{floor-holds, best-feasible}
 
 -- A node is expanded: child by child.
@@ -36,6 +37,7 @@ pub record Going (g : Graph) (w : SearchState) (i y : ℕ) (done : List (ℕ × 
   pub grown : Grown g (DueOf i done) v
   pub listed : Listed v
   pub counted : Counted v
+  pub apart : Apart v
   pub node : InUse v i
   pub partial : partial_at v i ≡ partial_at w i
   pub room : used v ≤ used w + length done
@@ -60,6 +62,7 @@ module _ (g : Graph) (L : Lawful g) (b : Bound) (lower : IsLowerBound b) (w : Se
     ]);
     listed = listed-visit v G.listed g b x.bound (child g x.partial c) room;
     counted = counted-visit g b x.bound v (child g x.partial c) G.counted;
+    apart = apart-visit g b x.bound v (child g x.partial c) G.apart room;
     node = (u.0, omega (arith, G.node.1, S.onward.more));
     partial = S.onward.partial i G.node ∙ G.partial;
     room = omega (arith, G.room, used-visit g b x.bound v (child g x.partial c));
@@ -104,6 +107,8 @@ module _ (g : Graph) (L : Lawful g) (b : Bound) (lower : IsLowerBound b) (w : Se
     ]);
     listed = subst (λ k. Listed (taken w k)) e (listed-taken w I.listed some I.grown.room);
     counted = counted-taken w i I.counted some;
+    apart = apart-on w (taken w i) I.apart refl (λ j l. keeps (λ (n : SearchNode). n.partial) refl j)
+        (ap (λ (n : SearchNode). n.waiting) zeroth ∙ I.apart.zeroth);
     node = u;
     partial = ap (λ (n : SearchNode). n.partial) same;
     room = omega arith;
@@ -193,7 +198,7 @@ expansion-keeps g b w L lower I some room =
     let end = going-all g L b lower w I i f.0 (floor w) f.1 (choices g (partial_at w i)) [] (taken w i) (λ c k. k) (omega arith) start in
     let v : SearchState = fold (visited_by g b (node_at w.nodes i)) (taken w i) (choices g (partial_at w i)) in
     let grown : Grown g All v = all-due g w v i (floor w) end.0 (λ c k. end.1 c (inl k)) end.2 in (
-      record { grown = grown; listed = end.2.listed; counted = end.2.counted },
+      record { grown = grown; listed = end.2.listed; counted = end.2.counted; apart = end.2.apart },
       low-floor (floor w) (best_length v) v.bag (omega (arith, floor-holds g w L I (best_schedule v) (best-feasible g v L grown), grown.best.2)) end.2.low,
       end.2.shorter,
     )

@@ -11,3 +11,6 @@ pub mod Starting
 pub mod Ripe
 pub mod Advancing
 pub mod Ending
+pub mod Fating
+pub mod Apart
+pub mod Told

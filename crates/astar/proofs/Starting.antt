@@ -11,7 +11,7 @@ use Rattle.model.specs.Nodes.{SearchNode, no_node, node_at}
 use Rattle.model.proofs.Membership.{contains-first}
 use Rattle.astar.specs.States.{SearchState, best_node, waiting_node, entry}
 use Rattle.astar.specs.Opening.{opened}
-use Rattle.astar.specs.Invariant.{InUse, Grown, Listed, All}
+use Rattle.astar.specs.Invariant.{InUse, Grown, Listed, Apart, All}
 use Rattle.astar.specs.Laws.{OpeningStands}
 use Rattle.astar.proofs.Growth.{FreshNode, BestNode}
 
@@ -66,6 +66,12 @@ module _ (g : Graph) (b : Bound) (s : Partial) (ns : List SearchNode) (L : Lawfu
     order = (tt, tt);
   }
 
+  pub opened-apart : Apart (opened g b s ns)
+  opened-apart = record {
+    distinct = λ i j u v ne d. ne (one i u ∙ sym (one j v));
+    zeroth = ap (λ (x : SearchNode). x.waiting) zeroth;
+  }
+
   pub opened-size : length (opened g b s ns).nodes ≡ length ns
   opened-size = size
 
@@ -77,6 +83,7 @@ opening-stands g b s ns limit L lower R full two fits = record {
     grown = opened-grown g b s ns L lower R full two;
     listed = opened-listed g b s ns L lower R full two;
     counted = record { made = refl; waiting = refl; listed = refl };
+    apart = opened-apart g b s ns L lower R full two;
   };
 }
   where

@@ -25,7 +25,7 @@ pub record Step (g : Graph) (w v : SearchState) (c : Partial) : Type 0 where
   pub still : (j : ℕ) → InUse w j → (node_at v.nodes j).waiting ≡ (node_at w.nodes j).waiting
   pub told : Visited g v c
 
-complete-all : (g : Graph) (c : Partial) → is_complete g c ≡ true → Complete g c
+pub complete-all : (g : Graph) (c : Partial) → is_complete g c ≡ true → Complete g c
 unfolding is_complete
 complete-all g c e = every-all g.tasks c.placed e
 

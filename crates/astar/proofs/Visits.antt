@@ -23,6 +23,18 @@ abbrev pub passed : SearchState → SearchState
 passed w = record w { tally = count_complete w.tally }
 
 module _ (g : Graph) (b : Bound) (up : ℕ) (w : SearchState) (c : Partial) (P : SearchState → Type 0) where
+  pub visit-parts :
+      (is_complete g c ≡ true → makespan g (whole c) < best_length w → P (bettered g w c))
+      → (is_complete g c ≡ true → best_length w ≤ makespan g (whole c) → P (passed w))
+      → (best_length w ≤ max up (b g c) → P (pruned w))
+      → (is_held w.nodes (used w) c ≡ true → P (repeated w))
+      → (is_complete g c ≡ false → is_held w.nodes (used w) c ≡ false → P (stored w c (max up (b g c))))
+      → P (visited g b up w c)
+  unfolding visited
+  visit-parts better passes prunes repeats stores = cond_both _ _ _ P
+      (λ e. cond_both _ _ _ (λ ns. P (record { tally = count_complete w.tally; nodes = ns; bag = w.bag })) (λ q. better e (ltb-true _ _ q)) (λ q. passes e (ltb-false _ _ q)))
+      (λ e. cond_both _ _ _ P (λ q. prunes (leb-true _ _ q)) (λ q. cond_both _ _ _ P repeats (λ h. stores e h)))
+
   pub visit-cases :
       (is_complete g c ≡ true → makespan g (whole c) < best_length w → P (bettered g w c))
       → (is_complete g c ≡ true → best_length w ≤ makespan g (whole c) → P (passed w))
@@ -30,10 +42,7 @@ module _ (g : Graph) (b : Bound) (up : ℕ) (w : SearchState) (c : Partial) (P :
       → (is_held w.nodes (used w) c ≡ true → P (repeated w))
       → (is_complete g c ≡ false → P (stored w c (max up (b g c))))
       → P (visited g b up w c)
-  unfolding visited
-  visit-cases better passes prunes repeats stores = cond_both _ _ _ P
-      (λ e. cond_both _ _ _ (λ ns. P (record { tally = count_complete w.tally; nodes = ns; bag = w.bag })) (λ q. better e (ltb-true _ _ q)) (λ q. passes e (ltb-false _ _ q)))
-      (λ e. cond_both _ _ _ P (λ q. prunes (leb-true _ _ q)) (λ q. cond_both _ _ _ P repeats (λ h. stores e)))
+  visit-cases better passes prunes repeats stores = visit-parts better passes prunes repeats (λ e h. stores e)
 
 -- what taking a node leaves and each visit of a child keeps holds once the node is expanded
 pub expansion-visits : (g : Graph) (b : Bound) (w : SearchState) (i : ℕ) (P : SearchState → Type 0)

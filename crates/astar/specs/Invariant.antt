@@ -71,6 +71,12 @@ pub record Counted (w : SearchState) : Type 0 where
   pub waiting : w.tally.waiting + w.tally.expanded ≡ w.tally.stored + 1
   pub listed : length w.bag ≡ w.tally.waiting
 
+-- no two used nodes above 0 are duplicates, and node 0, which holds the best schedule, does not wait
+pub record Apart (w : SearchState) : Type 0 where
+  pub distinct : (i j : ℕ) → InUse w i → InUse w j → i ≢ j
+      → is_duplicate (partial_at w i) (partial_at w j) ≡ true → ⊥
+  pub zeroth : (node_at w.nodes 0).waiting ≡ false
+
 -- every child is due
 abbrev pub All : ℕ → ℕ × ℕ → Type 0
 All i x = Unit {0}
@@ -79,3 +85,4 @@ pub record Invariant (g : Graph) (w : SearchState) : Type 0 where
   pub grown : Grown g All w
   pub listed : Listed w
   pub counted : Counted w
+  pub apart : Apart w

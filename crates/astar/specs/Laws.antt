@@ -1,11 +1,12 @@
-use Rattle.std.specs.Prelude.{◌≡◌, ℕ, ◌+◌, ◌<◌, ◌≤◌, ◌≢◌, min, true, List, [], ◌∷◌, length}
+use Rattle.std.specs.Prelude.{◌≡◌, ℕ, ◌+◌, ◌<◌, ◌≤◌, ◌≢◌, ◌⊎◌, min, true, false, List, [], ◌∷◌, length}
+use Rattle.std.specs.List.{Contains}
 use Rattle.model.specs.Graph.{Graph, Lawful}
 use Rattle.model.specs.Schedule.{Schedule, Feasible, makespan}
-use Rattle.model.specs.Partial.{Partial, Complete}
+use Rattle.model.specs.Partial.{Partial, Complete, whole, nothing}
 use Rattle.model.specs.Reachable.{Reachable}
 use Rattle.model.specs.Children.{choices}
 use Rattle.model.specs.Bounds.{Bound, IsLowerBound}
-use Rattle.model.specs.Nodes.{SearchNode}
+use Rattle.model.specs.Nodes.{SearchNode, node_at}
 use Rattle.bag.specs.Bag.{InOrder}
 use Rattle.queue.specs.declared.entry.Entry.{Entry}
 use Rattle.queue.specs.Entries.{entry_before}
@@ -75,3 +76,25 @@ abbrev pub OpeningStands : Type 0
 OpeningStands = (g : Graph) (b : Bound) (s : Partial) (ns : List SearchNode) (limit : ℕ) → Lawful g
     → IsLowerBound b → Reachable g s → Complete g s → 2 ≤ length ns → length ns ≤ limit
     → Standing g (sizes_of g ns) limit (opened g b s ns)
+
+-- the floor is above neither the best length nor an entry's bound, and it is one of these
+abbrev pub FloorIsLeast : Type 0
+FloorIsLeast = (w : SearchState) → InOrder entry_before w.bag
+    → (floor w ≤ best_length w)
+    × ((e : Entry) → Contains w.bag e → floor w ≤ e.bound)
+    × ((floor w ≡ best_length w) ⊎ ((e : Entry) × Contains w.bag e × (floor w ≡ e.bound)))
+
+-- opening with a schedule: it fills node 0 with its makespan and does not wait; the empty partial schedule waits in node
+-- 1 with the rule's number for it; each other node is as it was; the one entry is that of node 1; and nothing is counted
+-- but the node that waits
+pub record Opens (g : Graph) (b : Bound) (s : Partial) (ns : List SearchNode) (w : SearchState) : Type 0 where
+  pub best : node_at w.nodes 0 ≡ record { partial = s; bound = makespan g (whole s); waiting = false }
+  pub root : node_at w.nodes 1 ≡ record { partial = nothing; bound = b g nothing; waiting = true }
+  pub others : (j : ℕ) → 1 < j → node_at w.nodes j ≡ node_at ns j
+  pub size : length w.nodes ≡ length ns
+  pub list : w.bag ≡ record { bound = b g nothing; node = 1 } ∷ []
+  pub tally : w.tally ≡ record { expanded = 0; generated = 0; stored = 0; duplicates = 0; pruned = 0; complete = 0; waiting = 1 }
+
+abbrev pub OpeningFills : Type 0
+OpeningFills = (g : Graph) (b : Bound) (s : Partial) (ns : List SearchNode) → 2 ≤ length ns
+    → Opens g b s ns (opened g b s ns)

@@ -4,4 +4,5 @@ pub mod Opening
 pub mod Advance
 pub mod Invariant
 pub mod Endings
+pub mod Fates
 pub mod Laws

@@ -1,4 +1,5 @@
-ghost use Rattle.astar.specs.Laws.{FloorHolds, BestIsFeasible, ExpansionKeeps, AdvanceKeeps, AdvanceEnds, OpeningStands};
+ghost use Rattle.astar.specs.Laws.{FloorHolds, BestIsFeasible, ExpansionKeeps, AdvanceKeeps, AdvanceEnds, OpeningStands, FloorIsLeast, OpeningFills};
+ghost use Rattle.astar.specs.Fates.{ChildFates, ExpansionVisits};
 
 // Each theorem on the states of a search is the promise of a function of its name.
 
@@ -30,4 +31,24 @@ pub fn advance_keeps()
 // A call of advance ends at the first state to which one of five tests applies, by the first that does.
 pub fn advance_ends()
     ensures { AdvanceEnds }
+{}
+
+// What becomes of a child: it is complete, cut, a duplicate, or kept.
+pub fn child_fates()
+    ensures { ChildFates }
+{}
+
+// Expanding a node takes it, and then its children come in the order of the choices, each to its end, which is counted.
+pub fn expansion_visits()
+    ensures { ExpansionVisits }
+{}
+
+// The floor is the best length or some entry's bound, and above none of these.
+pub fn floor_is_least()
+    ensures { FloorIsLeast }
+{}
+
+// What opening fills the table and the list with.
+pub fn opening_fills()
+    ensures { OpeningFills }
 {}

@@ -1,0 +1,5 @@
+use Rattle.astar.proofs.Fating.{child-fates}
+use Rattle.astar.proofs.laws.child_fates.Goals as goal
+
+pub returns : goal.returns
+returns c = child-fates

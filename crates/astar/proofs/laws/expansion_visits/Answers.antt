@@ -1,0 +1,5 @@
+use Rattle.astar.proofs.Fating.{expansion-visits-all}
+use Rattle.astar.proofs.laws.expansion_visits.Goals as goal
+
+pub returns : goal.returns
+returns c = expansion-visits-all

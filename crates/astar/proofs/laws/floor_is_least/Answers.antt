@@ -1,0 +1,5 @@
+use Rattle.astar.proofs.Told.{floor-is-least}
+use Rattle.astar.proofs.laws.floor_is_least.Goals as goal
+
+pub returns : goal.returns
+returns c = floor-is-least

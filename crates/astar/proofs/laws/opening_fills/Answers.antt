@@ -1,0 +1,5 @@
+use Rattle.astar.proofs.Told.{opening-fills}
+use Rattle.astar.proofs.laws.opening_fills.Goals as goal
+
+pub returns : goal.returns
+returns c = opening-fills
