@@ -29,7 +29,7 @@ use Rattle.astar.proofs.Floor.{least-listed}
 -- A call of advance ends by the first of five tests that applies, at the first state to which one does.
 
 -- an expansion counts one node more, and leaves the list in order
-expansion-counts : (g : Graph) (b : Bound) (w : SearchState) (i : ℕ) → (expanded g b w i).tally.expanded ≡ w.tally.expanded + 1
+pub expansion-counts : (g : Graph) (b : Bound) (w : SearchState) (i : ℕ) → (expanded g b w i).tally.expanded ≡ w.tally.expanded + 1
 expansion-counts g b w i = expansion-visits g b w i (λ v. v.tally.expanded ≡ w.tally.expanded + 1)
     (λ v c e. visit-cases g b _ v c (λ u. u.tally.expanded ≡ w.tally.expanded + 1) (λ f l. e) (λ f l. e) (λ l. e) (λ h. e) (λ f. e)) refl
 

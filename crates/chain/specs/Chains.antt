@@ -32,6 +32,7 @@ pub record Placed (l : Links) (e : Entry) (p : Place) : Type 0 where
   pub passed : (i : ℕ) → i < steps → entry_before (entry_at (cells_of l) (step_of l i)) e ≡ true
   pub stopped : steps < l.count → entry_before (entry_at (cells_of l) p.next) e ≡ false
 
--- the arrangement after a call: wherever the chains lead, no cell holds another entry than before but the one that was the first free one
+-- the arrangement after a call: wherever the chains lead, every cell holds the entry that it held, but the first free one where an entry was put
 abbrev pub CellsKept : Links → Links → Type 0
-CellsKept a b = (k : ℕ) → ¬ (k ≡ a.free) → entry_at (cells_of b) k ≡ entry_at (cells_of a) k
+CellsKept a b =
+    (k : ℕ) → (k ≡ a.free → b.count ≤ a.count) → entry_at (cells_of b) k ≡ entry_at (cells_of a) k

@@ -31,6 +31,9 @@ module _ {X : Type 0} where
   pub behind-popped : (xs ys zs : List X) (n m : ℕ) → suc m ≡ n → Swapped xs ys 0 m → Rearranged m ys zs → (k : ℕ) (d : X) → n ≤ k → m ≤ k → get_or zs k d ≡ get_or xs k d
   behind-popped xs ys zs n m e s a k d p q = behind m ys zs a k d q ∙ s.2 k d (omega arith) (omega arith)
 
+  pub vacated : (xs ys zs : List X) (m : ℕ) → Swapped xs ys 0 m → Rearranged m ys zs → (d : X) → get_or zs m d ≡ get_or xs 0 d
+  vacated xs ys zs m s a d = behind m ys zs a m d (omega arith) ∙ s.1 d
+
   -- slot 0 apart, the others are left
   left_over : (xs ys zs : List X) (n m : ℕ) (d : X) → suc m ≡ n → n ≤ length xs → Swapped xs ys 0 m → Rearranged m ys zs → IsPermutation (take n xs) (get_or xs 0 d ∷ take m zs)
   left_over xs ys zs n m d e le s a =

@@ -1,4 +1,4 @@
-use Rattle.std.specs.Prelude.{◌≡◌, ℕ, ◌≤◌, Bool, List, take, slice_index_or}
+use Rattle.std.specs.Prelude.{◌≡◌, ℕ, ◌<◌, ◌≤◌, Bool, List, take, slice_index_or}
 use Rattle.queue.specs.declared.heap.Heap.{Heap}
 use Rattle.bag.specs.Bag.{sorted}
 use Rattle.queue.specs.Slots.{HeapOrder}
@@ -15,7 +15,11 @@ bag_of before h = sorted before (take h.count (slots_of h))
 abbrev pub Heaped : {X : Type 0} → (X → X → Bool) → Heap X → Type 0
 Heaped before h = HeapOrder before (slots_of h) h.count
 
--- the arrangement after a call: wherever the entries lie, the slots behind them, before and after, hold what they held
+-- the arrangement after a call: wherever the entries lie, the slots behind them, before and after, hold what they held;
+-- and a slot given up holds the entry that was taken, which lay in slot 0
 abbrev pub SlotsKept : {X : Type 0} → Heap X → Heap X → Type 0
-SlotsKept {X} a b = (k : ℕ) (d : X) → a.count ≤ k → b.count ≤ k
-    → slice_index_or (slots_of b) k d ≡ slice_index_or (slots_of a) k d
+SlotsKept {X} a b =
+    ((k : ℕ) (d : X) → a.count ≤ k → b.count ≤ k
+    → slice_index_or (slots_of b) k d ≡ slice_index_or (slots_of a) k d)
+    × ((d : X) → b.count < a.count
+    → slice_index_or (slots_of b) b.count d ≡ slice_index_or (slots_of a) 0 d)

@@ -6,3 +6,4 @@ pub mod EntryBags
 pub mod ReadyTasks
 pub mod ReadyBags
 pub mod ReadyOrder
+pub mod Keeping

@@ -5,3 +5,4 @@ pub mod Progress
 pub mod Turns
 pub mod Rows
 pub mod Calls
+pub mod Keeping

@@ -9,6 +9,7 @@ ghost use Rattle.children.specs.Meaning.{the_choices};
 ghost use Rattle.nodes.specs.View.{the_node};
 ghost use Rattle.nodes.specs.Meaning.{the_nodes};
 ghost use Rattle.astar.specs.Expansion.{completed, kept_or_dropped, stored, visited, visited_by, expanded};
+ghost use Rattle.queue.specs.Keeping.{Kept};
 ghost use Rattle.search.specs.States.{the_state};
 ghost use Rattle.search.specs.Counts.{Room};
 
@@ -64,6 +65,7 @@ fn store<L: OpenList>(
     ensures is { the_state tally.new table.new (L.bag list.new)
         ≡ stored (the_state tally.old table.old (L.bag list.old)) (the_partial child.now) bound }
     ensures limit { L.limit list.new ≡ L.limit list.old }
+    ensures kept { L.kept list.old list.new }
 {
     let node = tally.stored as usize + 2;
     table.write(
@@ -81,6 +83,7 @@ fn store<L: OpenList>(
 }
 
 // A child that is not complete is pruned, dropped as a duplicate, or stored.
+#[tactic(auto, using(crate::proofs::Keeping::kept_still, crate::proofs::Keeping::kept_one))]
 fn keep_or_drop<L: OpenList>(
     table: &mut Table,
     list: &mut L,
@@ -93,6 +96,7 @@ fn keep_or_drop<L: OpenList>(
         ≡ kept_or_dropped (the_state tally.old table.old (L.bag list.old))
         (the_partial child.now) bound }
     ensures limit { L.limit list.new ≡ L.limit list.old }
+    ensures kept { Kept L.kept list.old list.new }
 {
     if table.node(0).bound <= bound {
         tally.generated += 1;
@@ -106,7 +110,7 @@ fn keep_or_drop<L: OpenList>(
 }
 
 // One child of a node with bound up.
-#[tactic(auto, unfolding(astar::specs::Expansion::visited))]
+#[tactic(auto, using(crate::proofs::Keeping::kept_still), unfolding(astar::specs::Expansion::visited))]
 fn visit<B: LowerBound, L: OpenList>(
     g: &TaskGraph,
     rule: &B,
@@ -121,6 +125,7 @@ fn visit<B: LowerBound, L: OpenList>(
         ≡ visited (the_graph g.now) (B.number rule.now) up
         (the_state tally.old table.old (L.bag list.old)) (the_partial child.now) }
     ensures limit { L.limit list.new ≡ L.limit list.old }
+    ensures kept { Kept L.kept list.old list.new }
 {
     if is_complete(g, child) {
         complete(g, table, list, tally, child);
@@ -148,6 +153,7 @@ fn visit_choice<B: LowerBound, L: OpenList>(
         ≡ visited_by (the_graph g.now) (B.number rule.now) (the_node parent.now)
         (the_state tally.old table.old (L.bag list.old)) (pair_of choice.now) }
     ensures limit { L.limit list.new ≡ L.limit list.old }
+    ensures kept { Kept L.kept list.old list.new }
     ensures room { (n : ℕ) → Room (n + 1) (L.limit list.old)
         (the_state tally.old table.old (L.bag list.old))
         → Room n (L.limit list.new) (the_state tally.new table.new (L.bag list.new)) }
@@ -177,6 +183,7 @@ fn visit_all<B: LowerBound, L: OpenList>(
         ≡ fold (visited_by (the_graph g.now) (B.number rule.now) (the_node parent.now))
         (the_state tally.old table.old (L.bag list.old)) (pairs_of choices.now) }
     ensures limit { L.limit list.new ≡ L.limit list.old }
+    ensures kept { Kept L.kept list.old list.new }
 {
     for choice in choices {
         visit_choice(g, rule, table, list, tally, parent, choice);
@@ -205,6 +212,7 @@ pub(crate) fn expand<B: LowerBound, L: OpenList>(
         ≡ expanded (the_graph g.now) (B.number rule.now)
         (the_state tally.old table.old (L.bag list.old)) i }
     ensures limit { L.limit list.new ≡ L.limit list.old }
+    ensures kept { Kept L.kept list.old list.new }
 {
     let parent = table.node(i);
     table.expand(i);

@@ -1,7 +1,8 @@
-ghost use Rattle.std.specs.Prelude.{◌≡◌, None, Some, MatchResult};
+ghost use Rattle.std.specs.Prelude.{◌≡◌, ◌+◌, None, Some, MatchResult};
 ghost use Rattle.loader.specs.Meaning.{the_graph};
 ghost use Rattle.astar.specs.Expansion.{expanded};
 ghost use Rattle.astar.specs.Advance.{early_word, turn_word, last_word, next_node, advanced};
+ghost use Rattle.queue.specs.Keeping.{Kept};
 ghost use Rattle.search.specs.States.{the_state};
 
 use crate::expand::expand;
@@ -14,6 +15,7 @@ use queue::open_list::OpenList;
 
 impl Search {
     // The node whose entry comes first is expanded, or the outcome that ends the call.
+    #[tactic(auto, using(crate::proofs::Keeping::kept_still))]
     fn turn<B: LowerBound, L: OpenList>(
         &mut self,
         g: &TaskGraph,
@@ -31,6 +33,10 @@ impl Search {
             (the_state self.old.tally table.old (L.bag list.old)) (L.limit list.old) ≡ Some o)
             × (the_state self.new.tally table.new (L.bag list.new)
             ≡ the_state self.old.tally table.old (L.bag list.old))) }
+        ensures still { MatchResult result
+            (λ _. self.new.tally.expanded ≡ self.old.tally.expanded + 1)
+            (λ _. (self.new.tally ≡ self.old.tally) × (list.new ≡ list.old)) }
+        ensures kept { Kept L.kept list.old list.new }
         ensures sizes { self.new.sizes ≡ self.old.sizes }
         ensures limit { L.limit list.new ≡ L.limit list.old }
     {
@@ -66,6 +72,8 @@ impl Search {
         ensures is { (the_state self.new.tally table.new (L.bag list.new), result)
             ≡ advanced (the_graph g.now) (B.number rule.now) self.old.sizes
             (L.limit list.old) budget (the_state self.old.tally table.old (L.bag list.old)) }
+        ensures still { self.new.tally.expanded ≡ self.old.tally.expanded → list.new ≡ list.old }
+        ensures kept { Kept L.kept list.old list.new }
         ensures sizes { self.new.sizes ≡ self.old.sizes }
         ensures limit { L.limit list.new ≡ L.limit list.old }
     {

@@ -5,6 +5,7 @@ ghost use Rattle.model.specs.Nodes.{node_at};
 ghost use Rattle.loader.specs.Meaning.{the_graph};
 ghost use Rattle.schedule.specs.ListSchedule.{listed};
 ghost use Rattle.nodes.specs.Meaning.{the_nodes};
+ghost use Rattle.queue.specs.Keeping.{Kept};
 ghost use Rattle.astar.specs.declared.outcome.Outcome.TheVariants.{Strange};
 ghost use Rattle.astar.specs.States.{best_length};
 ghost use Rattle.astar.specs.Opening.{sizes_of, opened};
@@ -47,6 +48,7 @@ impl Search {
             (listed (the_graph g.now) (the_graph g.now).tasks) (the_nodes table.old)))
             (λ e. (open_fault (the_nodes table.old) (L.bag list.old) (L.limit list.old) ≡ Some e)
             × (the_nodes table.new ≡ the_nodes table.old) × (list.new ≡ list.old)) }
+        ensures kept { Kept L.kept list.old list.new }
         ensures limit { L.limit list.new ≡ L.limit list.old }
         ensures run { IfOk result (λ s. Run (the_graph g.now) (B.number rule.now) false
             (moment s table.new (L.bag list.new) (L.limit list.new))) }
@@ -75,6 +77,8 @@ impl Search {
         ensures onward { GoesOnTo (the_graph g.now) (B.number rule.now) self.old.sizes
             (L.limit list.old) budget (the_state self.old.tally table.old (L.bag list.old))
             (the_state self.new.tally table.new (L.bag list.new)) }
+        ensures still { self.new.tally.expanded ≡ self.old.tally.expanded → list.new ≡ list.old }
+        ensures kept { Kept L.kept list.old list.new }
         ensures sizes { self.new.sizes ≡ self.old.sizes }
         ensures limit { L.limit list.new ≡ L.limit list.old }
         ensures run { Run (the_graph g.now) (B.number rule.now) false

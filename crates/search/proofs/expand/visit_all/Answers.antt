@@ -1,6 +1,7 @@
-use Rattle.std.proofs.Common.{◌+◌, ◌-◌, ◌≡◌, length, arith, subst, ◌∙◌}
+use Rattle.std.proofs.Common.{rules, refl, ◌+◌, ◌-◌, ◌≡◌, length, arith, subst, ◌∙◌}
 use Rattle.search.specs.States.{the_state}
 use Rattle.search.specs.Counts.{Room}
+use Rattle.search.proofs.Keeping.{kept_still, kept_on}
 use Rattle.search.proofs.Folding.{fold-map-more, choice-at}
 use Rattle.search.proofs.expand.visit_all.Goals as goal
 
@@ -14,5 +15,9 @@ loop-choice-preserved g c =
     let left : length c.args.choices.now - c.loop-choice.choice-index ≡ length c.args.choices.now - (c.loop-choice.choice-index + 1) + 1 = omega (arith, c.loop-choice-test.true) in record {
       is = fold-map-more _ _ _ _ _ c.args.choices.now c.loop-choice.choice-index _ c.loop-choice-test.true i.is v.is;
       room = v.room _ (subst (λ n. Room n (g.L.OpenList.limit c.loop-choice.list) (the_state c.loop-choice.tally c.loop-choice.table (g.L.OpenList.bag c.loop-choice.list))) left i.room);
+      kept = kept_on g.L.OpenList.kept _ _ _ i.kept v.kept;
       limit = v.limit ∙ i.limit;
     }
+
+pub loop-choice-init : goal.loop-choice-init
+loop-choice-init g c = record { is = search rules; room = search rules; kept = kept_still g.L.OpenList.kept _ _ refl; limit = refl }

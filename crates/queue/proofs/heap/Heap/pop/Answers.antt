@@ -1,5 +1,5 @@
 use Rattle.std.proofs.Common.{◌-◌, ◌<◌, arith}
-use Rattle.queue.proofs.Heaping.{held, popped, behind-popped}
+use Rattle.queue.proofs.Heaping.{held, popped, behind-popped, vacated}
 use Rattle.queue.proofs.heap.Heap.pop.Goals as goal
 
 pub returns-clause-bag : goal.returns-clause-bag
@@ -14,4 +14,5 @@ returns-clause-kept g c =
     let o = g.met.T.TotalOrder.total in
     let h = c.args.self.now in
     let some : 0 < h.count = held g.T.TotalOrder.before o h.slots.now h.count c.in_ok-top.top h.within c.in_ok-top.ensures in
-    behind-popped h.slots.now c.swap.new.self c.sift_down.new.s h.count (h.count - 1) (omega arith) c.swap.ensures.by_index c.sift_down.ensures.slots
+    (behind-popped h.slots.now c.swap.new.self c.sift_down.new.s h.count (h.count - 1) (omega arith) c.swap.ensures.by_index c.sift_down.ensures.slots,
+    λ d lt. vacated h.slots.now c.swap.new.self c.sift_down.new.s (h.count - 1) c.swap.ensures.by_index c.sift_down.ensures.slots d)

@@ -1,5 +1,7 @@
-use Rattle.std.proofs.Common.{◌≡◌, ◌+◌, ◌-◌, suc, arith, ap, ◌∙◌}
+use Rattle.std.proofs.Common.{refl, rules, ◌≡◌, ◌+◌, ◌-◌, suc, arith, ap, ◌∙◌}
 use Rattle.search.specs.States.{the_state}
+use Rattle.astar.specs.declared.tally.Tally.{Tally}
+use Rattle.search.proofs.Keeping.{kept_on, kept_still}
 use Rattle.search.proofs.Turns.{advanced-stop, advanced-go, advanced-end}
 use Rattle.search.proofs.search.Search.spend.Goals as goal
 
@@ -14,6 +16,8 @@ loop-preserved g c =
     let i = c.loop.invariant in
     let left : suc (c.args.budget - (c.loop.counter + 1)) ≡ c.args.budget - c.loop.counter = omega (arith, c.loop-test.true) in record {
       is = advanced-go _ _ _ _ _ _ _ _ _ _ left t.is.0 t.is.1 t.sizes t.limit ∙ i.is;
+      still = ((λ e. absurd (omega (arith, e))), omega (arith, t.still, i.still.1));
+      kept = kept_on g.L.OpenList.kept _ _ _ i.kept t.kept;
       sizes = t.sizes ∙ i.sizes;
       limit = t.limit ∙ i.limit;
     }
@@ -23,3 +27,21 @@ returns-clause-is g c =
     advanced-end _ _ _ _ (c.args.budget - c.loop.counter) _ _ _ (omega (arith, c.loop-test.false))
     (ap (λ l. the_state c.loop.self.tally c.loop.table (g.L.OpenList.bag l)) c.last_outcome.ensures.same) c.last_outcome.ensures.is
     ∙ c.loop.invariant.is
+
+pub returns-in-Err-clause-still : goal.returns-in-Err-clause-still
+returns-in-Err-clause-still g c e =
+    let t = c.in-Err.ensures.still in
+    let i = c.loop.invariant.still in
+    t.1 ∙ i.0 (omega (arith, e, i.1, ap (λ (s : Tally). s.expanded) t.0))
+
+pub returns-in-Err-clause-kept : goal.returns-in-Err-clause-kept
+returns-in-Err-clause-kept g c = kept_on g.L.OpenList.kept _ _ _ c.loop.invariant.kept c.in-Err.ensures.kept
+
+pub returns-clause-still : goal.returns-clause-still
+returns-clause-still g c e = let i = c.loop.invariant.still in c.last_outcome.ensures.same ∙ i.0 (omega (arith, e, i.1))
+
+pub returns-clause-kept : goal.returns-clause-kept
+returns-clause-kept g c = kept_on g.L.OpenList.kept _ _ _ c.loop.invariant.kept (kept_still g.L.OpenList.kept _ _ c.last_outcome.ensures.same)
+
+pub loop-init : goal.loop-init
+loop-init g c = record { is = search rules; still = ((λ e. refl), omega arith); kept = kept_still g.L.OpenList.kept _ _ refl; sizes = refl; limit = refl }
