@@ -41,7 +41,7 @@ expansion-order g b w i o = expansion-visits g b w i (λ v. InOrder entry_before
 
 module _ (g : Graph) (L : Lawful g) (z : Sizes) (limit allowed : ℕ) (w : SearchState) where
   -- the test for the search's own memory decides
-  own-not : is_own g z w limit ≡ true → Foreign g z limit w → ⊥
+  pub own-not : is_own g z w limit ≡ true → Foreign g z limit w → ⊥
   own-not q f =
       let tasks = and_parts _ _ q in
       let machines = and_parts _ _ tasks.1 in
@@ -52,7 +52,7 @@ module _ (g : Graph) (L : Lawful g) (z : Sizes) (limit allowed : ℕ) (w : Searc
       (⊎_elim (λ n. n (eqb-true _ _ nodes.0))
       (⊎_elim (λ n. n (eqb-true _ _ entries.0)) (λ l. absurd (omega (arith, l, leb-true _ _ entries.1)))))) f
 
-  not-own : is_own g z w limit ≡ false → Foreign g z limit w
+  pub not-own : is_own g z w limit ≡ false → Foreign g z limit w
   not-own q =
       ⊎_elim (λ e. inl (eqb-false _ _ e)) (λ r. inr
       (⊎_elim (λ e. inl (eqb-false _ _ e)) (λ r. inr

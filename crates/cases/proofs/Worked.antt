@@ -10,7 +10,9 @@ use Rattle.loader.specs.View.{leads}
 use Rattle.schedule.specs.ListSchedule.{listed, next_task, earliest}
 use Rattle.astar.specs.Expansion.{visited, expanded}
 use Rattle.astar.specs.Advance.{advanced}
-use Rattle.cases.specs.Table.{ExampleRead, Levels, ListSchedule, Bounds, Checks, Overlaps, Refused, Searches, ExampleSearched}
+use Rattle.cases.specs.Table.{ExampleRead, Levels, ListSchedule, Bounds, Checks, Overlaps, Refused, Searches, ExampleSearched, Numbers, ExamplePage, WithDuplicates, FiveTasks}
+use Rattle.std.specs.Fmt.{digits}
+use Rattle.page.specs.Texts.{report_text}
 
 pub example-read : ExampleRead
 unfolding any first leads
@@ -47,3 +49,18 @@ searches = ((refl, refl, refl), refl, (refl, refl, refl, refl))
 pub example-searched : ExampleSearched
 unfolding any first level listed next_task earliest normal_form append tried choices is_duplicate is_held is_orderly is_complete visited expanded advanced
 example-searched = (refl, refl, refl, refl)
+
+pub numbers : Numbers
+numbers = (refl, refl, refl, refl, refl, refl, refl, refl, refl)
+
+pub example-page : ExamplePage
+unfolding any first level listed next_task earliest normal_form append tried choices is_duplicate is_held is_orderly is_complete visited expanded advanced report_text digits
+example-page = refl
+
+pub with-duplicates : WithDuplicates
+unfolding any first level listed next_task earliest normal_form append tried choices is_duplicate is_held is_orderly is_complete visited expanded advanced
+with-duplicates = ((refl, refl, refl), (refl, refl, refl))
+
+pub five-tasks : FiveTasks
+unfolding any first level listed next_task earliest normal_form append tried choices is_duplicate is_held is_orderly is_complete visited expanded advanced
+five-tasks = (refl, refl, refl)

@@ -1,4 +1,4 @@
-use Rattle.std.specs.Prelude.{◌≡◌, ℕ, List, [], ◌∷◌, Ok, Err, Result, replicate}
+use Rattle.std.specs.Prelude.{◌≡◌, ℕ, true, List, [], ◌∷◌, ◌++◌, codes, Ok, Err, Result, replicate}
 use Rattle.model.specs.Graph.{Graph, level}
 use Rattle.model.specs.Partial.{Partial, nothing, whole}
 use Rattle.model.specs.Bounds.{path_bound, load_bound, arrival_bound, joined_bound}
@@ -6,7 +6,7 @@ use Rattle.model.specs.Nodes.{no_node}
 use Rattle.model.specs.Schedule.{makespan}
 use Rattle.refusal.specs.declared.layer.Layer.{Layer}
 use Rattle.refusal.specs.declared.refusal.Refusal.{Refusal}
-use Rattle.refusal.specs.declared.layer.Layer.TheVariants.{Bytes, Graph as GraphLayer, Check}
+use Rattle.refusal.specs.declared.layer.Layer.TheVariants.{Bytes, Records, Graph as GraphLayer, Search as SearchLayer, Check, Page as PageLayer}
 use Rattle.loader.specs.declared.transfer.Transfer.{Transfer}
 use Rattle.loader.specs.Description.{Description, described}
 use Rattle.loader.specs.Chaining.{lifted}
@@ -16,12 +16,19 @@ use Rattle.partial.specs.declared.placement.Placement.{Placement}
 use Rattle.schedule.specs.Check.{checked}
 use Rattle.schedule.specs.ListSchedule.{listed}
 use Rattle.schedule.specs.Refusals.{check_refusal}
+use Rattle.astar.specs.declared.tally.Tally.{Tally}
 use Rattle.astar.specs.declared.outcome.Outcome.{Outcome}
 use Rattle.astar.specs.declared.outcome.Outcome.TheVariants.{Met, Paused, Full}
 use Rattle.astar.specs.States.{SearchState, best_length}
 use Rattle.astar.specs.Opening.{sizes_of, opened}
 use Rattle.astar.specs.Advance.{advanced}
 use Rattle.astar.specs.Laws.{floor}
+use Rattle.schedule.specs.declared.fault.CheckFault.TheVariants as check_faults
+use Rattle.search.specs.declared.fault.SearchFault.TheVariants as search_faults
+use Rattle.search.specs.declared.fault.PageFault.TheVariants as page_faults
+use Rattle.search.specs.Refusals.{search_refusal, page_refusal}
+use Rattle.search.specs.Runs.{Moment}
+use Rattle.page.specs.Pages.{text_of}
 
 abbrev transfer : ℕ → ℕ → ℕ → Transfer
 transfer a b c = record { from = a; to = b; cost = c }
@@ -155,3 +162,73 @@ ExampleSearched =
     })
     × (floor (searched example 256 10000).0 ≡ 8)
     × (best_length (searched example 256 10000).0 ≡ 8)
+
+-- the refusals of the calls, by number, place and layer
+abbrev pub Numbers : Type 0
+Numbers =
+    (search_refusal search_faults.Table ≡ refused 9 0 SearchLayer)
+    × (search_refusal search_faults.List ≡ refused 10 0 SearchLayer)
+    × (search_refusal search_faults.Foreign ≡ refused 11 0 SearchLayer)
+    × (search_refusal search_faults.Unsettled ≡ refused 12 0 SearchLayer)
+    × (check_refusal (check_faults.Rows 3) ≡ refused 13 3 Check)
+    × (check_refusal (check_faults.Early 2) ≡ refused 14 2 Check)
+    × (check_refusal (check_faults.Overlap 1) ≡ refused 15 1 Check)
+    × (page_refusal (page_faults.Search search_faults.Foreign) ≡ refused 11 0 SearchLayer)
+    × (page_refusal page_faults.Short ≡ refused 16 0 PageLayer)
+
+-- the page of the example, searched to its end and settled
+abbrev example_end : Moment
+example_end = record {
+  sizes = sizes_of (described example) (replicate 256 no_node);
+  state = (searched example 256 10000).0;
+  limit = 256;
+}
+
+abbrev line : List ℕ → List ℕ
+line text = text ++ 10 ∷ []
+
+abbrev pub ExamplePage : Type 0
+ExamplePage = text_of (described example) true example_end
+    ≡ line (codes "tasks 4 machines 2")
+    ++ (line (codes "task 0 machine 0 start 0 finish 2")
+    ++ (line (codes "task 1 machine 1 start 3 finish 6")
+    ++ (line (codes "task 2 machine 0 start 2 finish 5")
+    ++ (line (codes "task 3 machine 1 start 6 finish 8")
+    ++ (line (codes "length 8 floor 8")
+    ++ (line (codes "taken 5 made 11 put 6 twins 0 cut 3 complete 2 waiting 2")
+    ++ line (codes "shortest")))))))
+
+-- searches with duplicates
+abbrev three : Description
+three = record { tasks = 3; machines = 2; works = 2 ∷ 3 ∷ 3 ∷ []; transfers = [] }
+
+abbrev fork : Description
+fork = record {
+  tasks = 3;
+  machines = 3;
+  works = 4 ∷ 1 ∷ 1 ∷ [];
+  transfers = transfer 0 1 0 ∷ transfer 0 2 2 ∷ [];
+}
+
+abbrev five : Description
+five = record {
+  tasks = 5;
+  machines = 3;
+  works = 4 ∷ 1 ∷ 4 ∷ 2 ∷ 2 ∷ [];
+  transfers = transfer 0 1 2 ∷ transfer 0 2 1 ∷ transfer 0 3 2 ∷ transfer 3 4 0 ∷ [];
+}
+
+-- a search with 400 nodes ends with these counts and this length
+abbrev Ends : Description → ℕ → Tally → ℕ → Type 0
+Ends d k counts length =
+    ((searched d 400 k).0.tally ≡ counts)
+    × (best_length (searched d 400 k).0 ≡ length)
+    × ((searched d 400 k).1 ≡ Met)
+
+abbrev pub WithDuplicates : Type 0
+WithDuplicates =
+    Ends three 100 (record { expanded = 7; generated = 21; stored = 6; duplicates = 3; pruned = 6; complete = 6; waiting = 0 }) 5
+    × Ends fork 100 (record { expanded = 3; generated = 7; stored = 4; duplicates = 0; pruned = 1; complete = 2; waiting = 2 }) 5
+
+abbrev pub FiveTasks : Type 0
+FiveTasks = Ends five 100 (record { expanded = 13; generated = 56; stored = 17; duplicates = 4; pruned = 29; complete = 6; waiting = 5 }) 9

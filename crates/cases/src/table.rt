@@ -1,4 +1,4 @@
-ghost use Rattle.cases.specs.Table.{ExampleRead, Levels, ListSchedule, Bounds, Checks, Overlaps, Refused, Searches, ExampleSearched};
+ghost use Rattle.cases.specs.Table.{ExampleRead, Levels, ListSchedule, Bounds, Checks, Overlaps, Refused, Searches, ExampleSearched, Numbers, ExamplePage, WithDuplicates, FiveTasks};
 
 // The worked cases, as equalities that the checker computes.
 pub fn worked_cases()
@@ -11,4 +11,8 @@ pub fn worked_cases()
     ensures refused { Refused }
     ensures searches { Searches }
     ensures searched { ExampleSearched }
+    ensures numbers { Numbers }
+    ensures page { ExamplePage }
+    ensures duplicates { WithDuplicates }
+    ensures five { FiveTasks }
 {}

@@ -16,6 +16,11 @@ use Rattle.search.specs.Calls.{is_best, best_fault, floor_fault, answer_or, left
 use Rattle.search.specs.Runs.{Moment}
 use Rattle.search.specs.Promise.{floor, InRun}
 use Rattle.search.specs.Promise as promise
+use Rattle.loader.proofs.Laws.{the_lawful}
+use Rattle.refusal.specs.Refusing.{Refuses}
+use Rattle.search.specs.Refusals.{page_refusal}
+use Rattle.search.specs.Refused.{WriteRefused}
+use Rattle.search.proofs.Refusing.{refuses-by, write-tells}
 use Rattle.search.proofs.Calls.{promised-to}
 use Rattle.page.specs.Texts.{report_text}
 use Rattle.page.specs.Pages.{closing_of, page_of, text_of, short_fault, page_fault, Truthful, EndsTruly}
@@ -94,3 +99,11 @@ ends-open g m r = record { word = ((λ e. cc), (λ e. cc)); shortest = λ e. cc 
 
 pub ends-shortest : (g : TaskGraph) (m : Moment) → InRun (the_graph g) true m → EndsTruly true (page_of (the_graph g) true m)
 ends-shortest g m r = record { word = ((λ e. refl), (λ e. refl)); shortest = λ e. (truthful g true true m r).shortest refl }
+
+-- and a page is refused as it says
+pub page-refuses : (g : TaskGraph) (settled : Bool) (m : Moment) (room : ℕ) (result : Result ℕ PageFault)
+    → result ≡ answer_or (length (text_of (the_graph g) settled m)) (page_fault (the_graph g) settled m room)
+    → Refuses (WriteRefused (the_graph g) m.sizes m.limit m.state (length (text_of (the_graph g) settled m)) room) page_refusal result
+page-refuses g settled m room result e =
+    refuses-by _ page_refusal (length (text_of (the_graph g) settled m)) (page_fault (the_graph g) settled m room) result e
+    (write-tells (the_graph g) (the_lawful g) m.sizes m.limit m.state (length (text_of (the_graph g) settled m)) room)

@@ -3,6 +3,9 @@ ghost use Rattle.loader.specs.Meaning.{the_graph};
 ghost use Rattle.search.specs.declared.search.Search.{Search};
 ghost use Rattle.search.specs.Calls.{answer_or, left_or};
 ghost use Rattle.search.specs.States.{moment};
+ghost use Rattle.refusal.specs.Refusing.{Refuses};
+ghost use Rattle.search.specs.Refusals.{page_refusal};
+ghost use Rattle.search.specs.Refused.{WriteRefused};
 ghost use Rattle.search.specs.Promise.{Promised, InRun};
 ghost use Rattle.page.specs.Pages.{page_of, text_of, page_fault, Truthful, EndsTruly};
 
@@ -39,6 +42,10 @@ pub trait Page {
             (L.limit list.old) in
             result ≡ answer_or (length (text_of (the_graph g.now) settled m))
             (page_fault (the_graph g.now) settled m (length buffer.old)) }
+        ensures refused { let m = moment (counts self.now) table.now (L.bag list.old)
+            (L.limit list.old) in
+            Refuses (WriteRefused (the_graph g.now) m.sizes m.limit m.state
+            (length (text_of (the_graph g.now) settled m)) (length buffer.old)) page_refusal result }
         ensures buffer { let m = moment (counts self.now) table.now (L.bag list.old)
             (L.limit list.old) in
             buffer.new ≡ left_or (text_of (the_graph g.now) settled m

@@ -5,3 +5,4 @@ pub mod Judged
 pub mod ListSchedule
 pub mod Refusals
 pub mod Waiting
+pub mod Refused

@@ -3,7 +3,10 @@ ghost use Rattle.loader.specs.Meaning.{the_graph};
 ghost use Rattle.model.specs.Partial.{whole};
 ghost use Rattle.partial.specs.Meaning.{the_partial};
 ghost use Rattle.schedule.specs.Check.{checked, judged};
+ghost use Rattle.refusal.specs.Refusing.{Refuses};
 ghost use Rattle.schedule.specs.Judged.{Judged};
+ghost use Rattle.schedule.specs.Refusals.{check_refusal};
+ghost use Rattle.schedule.specs.Refused.{CheckRefused};
 
 use crate::checked::rows;
 use crate::fault::CheckFault;
@@ -146,6 +149,7 @@ impl TaskRows<'_> {
 pub fn check(g: &TaskGraph, rows: &[Placement]) -> Result<u64, CheckFault>
     ensures is { result ≡ checked (the_graph g.now) rows.now }
     ensures exactly { Judged (the_graph g.now) rows.now result }
+    ensures refused { Refuses (CheckRefused (the_graph g.now) rows.now) check_refusal result }
 {
     if rows.len() != g.tasks() {
         return Err(CheckFault::Rows(g.tasks()));

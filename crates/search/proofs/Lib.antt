@@ -6,3 +6,4 @@ pub mod Turns
 pub mod Rows
 pub mod Calls
 pub mod Keeping
+pub mod Refusing

@@ -4,3 +4,4 @@ pub mod Refusals
 pub mod Calls
 pub mod Runs
 pub mod Promise
+pub mod Refused

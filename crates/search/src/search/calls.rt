@@ -12,6 +12,9 @@ ghost use Rattle.astar.specs.Opening.{sizes_of, opened};
 ghost use Rattle.astar.specs.Advance.{advanced};
 ghost use Rattle.astar.specs.Endings.{EndsBy, GoesOnTo};
 ghost use Rattle.astar.specs.Laws as laws;
+ghost use Rattle.refusal.specs.Refusing.{Refuses};
+ghost use Rattle.search.specs.Refusals.{search_refusal, page_refusal};
+ghost use Rattle.search.specs.Refused.{OpenRefused, FloorRefused, SettleRefused, WriteRefused};
 ghost use Rattle.search.specs.declared.fault.SearchFault.TheVariants.{Unsettled};
 ghost use Rattle.search.specs.Calls.{open_fault, floor_fault, settle_fault, best_fault, answer_or, left_or, with_rows};
 ghost use Rattle.search.specs.States.{the_state, moment};
@@ -48,6 +51,8 @@ impl Search {
             (listed (the_graph g.now) (the_graph g.now).tasks) (the_nodes table.old)))
             (λ e. (open_fault (the_nodes table.old) (L.bag list.old) (L.limit list.old) ≡ Some e)
             × (the_nodes table.new ≡ the_nodes table.old) × (list.new ≡ list.old)) }
+        ensures refused { Refuses (OpenRefused (the_nodes table.old) (L.bag list.old) (L.limit list.old))
+            search_refusal result }
         ensures kept { Kept L.kept list.old list.new }
         ensures limit { L.limit list.new ≡ L.limit list.old }
         ensures run { IfOk result (λ s. Run (the_graph g.now) (B.number rule.now) false
@@ -107,6 +112,8 @@ impl Search {
             (laws.floor (the_state self.now.tally table.now (L.bag list.old)))
             (floor_fault (the_graph g.now) self.now.sizes
             (the_state self.now.tally table.now (L.bag list.old)) (L.limit list.old)) }
+        ensures refused { Refuses (FloorRefused (the_graph g.now) self.now.sizes (L.limit list.old)
+            (the_state self.now.tally table.now (L.bag list.old))) search_refusal result }
         ensures same { list.new ≡ list.old }
         ensures run { (done : Bool)
             → InRun (the_graph g.now) done
@@ -142,6 +149,9 @@ impl Search {
             (best_fault (the_graph g.now) self.now.sizes
             (the_state self.now.tally table.now (L.bag list.old)) (L.limit list.old)
             (length rows.old)) }
+        ensures refused { Refuses (WriteRefused (the_graph g.now) self.now.sizes (L.limit list.old)
+            (the_state self.now.tally table.now (L.bag list.old)) (the_graph g.now).tasks
+            (length rows.old)) page_refusal result }
         ensures rows { rows.new
             ≡ left_or (with_rows (the_graph g.now)
             (node_at (the_nodes table.now) 0).partial rows.old) rows.old
@@ -177,6 +187,8 @@ impl Search {
             (λ e. (settle_fault (the_graph g.now) self.sizes
             (the_state self.tally table.now (L.bag list.old)) (L.limit list.old) ≡ Some e.0)
             × (e.1 ≡ self)) }
+        ensures refused { Refuses (SettleRefused (the_graph g.now) self.sizes (L.limit list.old)
+            (the_state self.tally table.now (L.bag list.old))) (λ e. search_refusal e.0) result }
         ensures same { list.new ≡ list.old }
         ensures run { (b : Bound) → Run (the_graph g.now) b false
             (moment self table.now (L.bag list.old) (L.limit list.old))

@@ -6,6 +6,9 @@ ghost use Rattle.nodes.specs.Meaning.{the_nodes};
 ghost use Rattle.astar.specs.States.{best_length};
 ghost use Rattle.astar.specs.Laws as laws;
 ghost use Rattle.search.specs.Calls.{floor_fault, best_fault, answer_or, left_or, with_rows};
+ghost use Rattle.refusal.specs.Refusing.{Refuses};
+ghost use Rattle.search.specs.Refusals.{search_refusal, page_refusal};
+ghost use Rattle.search.specs.Refused.{FloorRefused, WriteRefused};
 ghost use Rattle.search.specs.States.{the_state, moment};
 ghost use Rattle.search.specs.Promise.{floor, best, IsShortest, Promised, InRun};
 
@@ -30,6 +33,9 @@ impl Settled {
             (laws.floor (the_state self.now.search.tally table.now (L.bag list.old)))
             (floor_fault (the_graph g.now) self.now.search.sizes
             (the_state self.now.search.tally table.now (L.bag list.old)) (L.limit list.old)) }
+        ensures refused { Refuses (FloorRefused (the_graph g.now) self.now.search.sizes
+            (L.limit list.old) (the_state self.now.search.tally table.now (L.bag list.old)))
+            search_refusal result }
         ensures same { list.new ≡ list.old }
         ensures run { InRun (the_graph g.now) true
             (moment self.now.search table.now (L.bag list.old) (L.limit list.old))
@@ -63,6 +69,9 @@ impl Settled {
             (best_fault (the_graph g.now) self.now.search.sizes
             (the_state self.now.search.tally table.now (L.bag list.old)) (L.limit list.old)
             (length rows.old)) }
+        ensures refused { Refuses (WriteRefused (the_graph g.now) self.now.search.sizes
+            (L.limit list.old) (the_state self.now.search.tally table.now (L.bag list.old))
+            (the_graph g.now).tasks (length rows.old)) page_refusal result }
         ensures rows { rows.new
             ≡ left_or (with_rows (the_graph g.now)
             (node_at (the_nodes table.now) 0).partial rows.old) rows.old

@@ -7,7 +7,7 @@ use Rattle.search.specs.Runs.{Moment}
 use Rattle.search.specs.States.{moment}
 use Rattle.search.proofs.Calls.{promised-to}
 use Rattle.page.specs.declared.page.TheConstants.{BLANK}
-use Rattle.page.proofs.Telling.{never, roomy, page-told, run-told, ends-open}
+use Rattle.page.proofs.Telling.{never, roomy, page-told, run-told, page-refuses, ends-open}
 use Rattle.page.proofs.open_page.SearchPage.page.Goals as goal
 
 pub returns-in_err-length-clause-run : goal.returns-in_err-length-clause-run
@@ -20,6 +20,7 @@ returns g c =
     let low : Ok c.in_ok-floor.floor ≡ answer_or (floor m) (floor_fault (the_graph c.args.g.now) m.sizes m.state m.limit) = search rules in
     let told = page-told _ false m _ BLANK _ _ _ best c.best.ensures.rows low c.tally.ensures _ _ _ c.write.ensures.is c.write.ensures.buffer in record {
       is = told.0;
+      refused = page-refuses c.args.g.now false m (length c.args.buffer.now) _ told.0;
       buffer = told.1;
       same = search rules;
       run = λ done r h. run-told c.args.g.now false done _ r (length c.args.buffer.now) _ told.0 h;
@@ -43,3 +44,9 @@ returns-in_err-length-clause-ending g c r = ends-open c.args.g.now _ r
 
 pub returns-in_err-floor-clause-ending : goal.returns-in_err-floor-clause-ending
 returns-in_err-floor-clause-ending g c r = ends-open c.args.g.now _ r
+
+pub returns-in_err-length-clause-refused : goal.returns-in_err-length-clause-refused
+returns-in_err-length-clause-refused g c = page-refuses c.args.g.now false (moment c.args.self.now c.args.table.now (g.L.OpenList.bag c.args.list.now) (g.L.OpenList.limit c.args.list.now)) (length c.args.buffer.now) _ (search rules)
+
+pub returns-in_err-floor-clause-refused : goal.returns-in_err-floor-clause-refused
+returns-in_err-floor-clause-refused g c = page-refuses c.args.g.now false (moment c.args.self.now c.args.table.now (g.L.OpenList.bag c.args.list.now) (g.L.OpenList.limit c.args.list.now)) (length c.args.buffer.now) _ (search rules)

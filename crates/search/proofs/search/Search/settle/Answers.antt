@@ -1,5 +1,7 @@
 use Rattle.std.proofs.Common.{refl, sym, ◌∙◌}
 use Rattle.search.proofs.Calls.{promised-to, settle-run, settle-accepts, settle-refuses}
+use Rattle.search.specs.States.{moment}
+use Rattle.search.proofs.Refusing.{settle-accepted, settle-refused}
 use Rattle.search.proofs.search.Search.settle.Goals as goal
 
 pub returns-in-None-clause-run : goal.returns-in-None-clause-run
@@ -20,3 +22,9 @@ returns-in-Some-clause-shortest g c r =
 
 pub returns-in-Some-clause-promise : goal.returns-in-Some-clause-promise
 returns-in-Some-clause-promise g c = promised-to c.args.g.now
+
+pub returns-in-None-clause-refused : goal.returns-in-None-clause-refused
+returns-in-None-clause-refused g c = settle-accepted c.args.g.now (moment c.args.self c.args.table.now (g.L.OpenList.bag c.args.list.now) (g.L.OpenList.limit c.args.list.now)) (sym c.settle_fault.ensures.is ∙ c.in-None.is)
+
+pub returns-in-Some-clause-refused : goal.returns-in-Some-clause-refused
+returns-in-Some-clause-refused g c = settle-refused c.args.g.now (moment c.args.self c.args.table.now (g.L.OpenList.bag c.args.list.now) (g.L.OpenList.limit c.args.list.now)) c.in-Some.fault (sym c.settle_fault.ensures.is ∙ c.in-Some.is)
