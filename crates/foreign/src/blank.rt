@@ -24,5 +24,5 @@ pub(crate) fn node() -> Node {
 
 // A table of so many nodes.
 pub(crate) fn table(heap: Global, nodes: usize) -> Result<Table, AllocError> {
-    Table::new(heap, vec![in heap; node(); nodes]?)
+    Table::new(heap, vec![in heap; node(); nodes]?).map_err(|(fault, _)| fault)
 }

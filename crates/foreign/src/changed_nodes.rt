@@ -33,7 +33,7 @@ fn tell_changed(
     if let Some(place) = nodes.get_mut(i) {
         *place = node;
     }
-    scene.table = Table::new(rt.alloc(), nodes)?;
+    scene.table = Table::new(rt.alloc(), nodes).map_err(|(fault, _)| fault)?;
     scene.tell(rt, name)?;
     Ok(())
 }

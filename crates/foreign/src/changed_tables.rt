@@ -13,7 +13,7 @@ fn tell_resized(rt: &(impl Print + AllocGlobal), name: &str, count: usize) -> an
     for _ in nodes.len()..count {
         nodes.push(node())?;
     }
-    scene.table = Table::new(rt.alloc(), nodes)?;
+    scene.table = Table::new(rt.alloc(), nodes).map_err(|(fault, _)| fault)?;
     scene.tell(rt, name)?;
     Ok(())
 }

@@ -1,4 +1,4 @@
-ghost use Rattle.std.specs.Prelude.{◌≡◌, map};
+ghost use Rattle.std.specs.Prelude.{◌≡◌, map, max, None, IfOk, replicate};
 ghost use Rattle.nodes.specs.View.{the_node};
 ghost use Rattle.nodes.specs.Linked.{Linked};
 
@@ -21,25 +21,40 @@ pub struct Table {
     ghost links: { Linked (map the_node nodes.items) heads.items next.items linked },
 }
 
+// An index of n nodes with no chains: the first numbers, of one chain at least, and the numbers behind the nodes.
+fn blank_index(
+    heap: Global,
+    n: usize,
+) -> Result<(Vec<Option<usize>>, Vec<Option<usize>>), AllocError>
+    ensures { IfOk result (λ x. (x.0.items ≡ replicate (max n 1) None)
+        × (x.1.items ≡ replicate n None)) }
+{
+    let heads = vec![in heap; None; n.max(1)]?;
+    let next = vec![in heap; None; n]?;
+    Ok((heads, next))
+}
+
 impl Table {
-    ghost use Rattle.std.specs.Prelude.{length, IfOk, slice_set};
+    ghost use Rattle.std.specs.Prelude.{length, MatchResult, slice_set};
     ghost use Rattle.model.specs.Nodes.{node_at, is_held};
     ghost use Rattle.partial.specs.Meaning.{the_partial};
     ghost use Rattle.nodes.specs.Meaning.{the_nodes, set_expanded};
 
-    // A table of the caller's nodes, whatever they hold. Nothing else allocates.
-    pub fn new(heap: Global, nodes: Vec<Node>) -> Result<Table, AllocError>
-        ensures { IfOk result (λ t. the_nodes t ≡ map the_node nodes.items) }
+    // A table of the caller's nodes, whatever they hold; where there is no memory for the index, the nodes are handed back
+    // as they were. Nothing else allocates.
+    pub fn new(heap: Global, nodes: Vec<Node>) -> Result<Table, (AllocError, Vec<Node>)>
+        ensures { MatchResult result (λ t. the_nodes t ≡ map the_node nodes.items)
+            (λ e. e.1 ≡ nodes) }
     {
-        let buckets = nodes.len().max(1);
-        let heads = vec![in heap; None; buckets]?;
-        let next = vec![in heap; None; nodes.len()]?;
-        Ok(Table {
-            nodes,
-            heads,
-            next,
-            linked: 1,
-        })
+        match blank_index(heap, nodes.len()) {
+            Ok((heads, next)) => Ok(Table {
+                nodes,
+                heads,
+                next,
+                linked: 1,
+            }),
+            Err(fault) => Err((fault, nodes)),
+        }
     }
 
     // How many nodes there are.

@@ -97,7 +97,10 @@ fn blank_table(heap: Global, nodes: usize) -> Result<Table, AllocError>
         bound: 0,
         status: Status::Expanded,
     };
-    Table::new(heap, vec![in heap; blank; nodes]?)
+    match Table::new(heap, vec![in heap; blank; nodes]?) {
+        Ok(table) => Ok(table),
+        Err((fault, _nodes)) => Err(fault),
+    }
 }
 
 // The page of the plan of a graph, or no memory.

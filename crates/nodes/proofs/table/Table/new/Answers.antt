@@ -1,4 +1,4 @@
-use Rattle.std.proofs.Common.{◌≡◌, ℕ, map, length, replicate, Option, None, ◌∙◌, ap, arith, rules}
+use Rattle.std.proofs.Common.{◌≡◌, ℕ, map, max, length, replicate, Option, None, ◌∙◌, ap, arith}
 use Rattle.std.proofs.lemmas.List.{length-map}
 use Rattle.nodes.specs.View.{the_node}
 use Rattle.nodes.proofs.Linking.{nothing_linked}
@@ -8,9 +8,9 @@ pub invariant_of-result : goal.invariant_of-result
 invariant_of-result c =
     let ns = map the_node c.args.nodes.items in
     let long : length ns ≡ length c.args.nodes.items = length-map c.args.nodes.items the_node in
-    let heads = c.in_ok-heads.ensures.items_if_clones_equal (λ y h. search rules) in
-    let next = c.in_ok-next.ensures.items_if_clones_equal (λ y h. search rules) in
+    let index = c.in-Ok.ensures in
     record {
-      links = nothing_linked ns c.in_ok-heads.heads.items c.in_ok-next.next.items c.max-buckets.result (omega arith)
-          heads (next ∙ ap (λ (n : ℕ). replicate {A = Option ℕ} n None) (omega arith));
+      links = nothing_linked ns c.in-Ok.heads.items c.in-Ok.next.items (max (length ns) 1) (omega arith)
+          (index.0 ∙ ap (λ (n : ℕ). replicate {A = Option ℕ} n None) (omega arith))
+          (index.1 ∙ ap (λ (n : ℕ). replicate {A = Option ℕ} n None) (omega arith));
     }
