@@ -14,3 +14,4 @@ pub mod Ending
 pub mod Fating
 pub mod Apart
 pub mod Told
+pub mod Coursing

@@ -6,3 +6,4 @@ pub mod Invariant
 pub mod Endings
 pub mod Fates
 pub mod Laws
+pub mod Course

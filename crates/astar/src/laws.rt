@@ -1,5 +1,6 @@
 ghost use Rattle.astar.specs.Laws.{FloorHolds, BestIsFeasible, ExpansionKeeps, AdvanceKeeps, AdvanceEnds, OpeningStands, FloorIsLeast, OpeningFills};
 ghost use Rattle.astar.specs.Fates.{ChildFates, ExpansionVisits};
+ghost use Rattle.astar.specs.Course.{AdvanceVisits};
 
 // Each theorem on the states of a search is the promise of a function of its name.
 
@@ -51,4 +52,9 @@ pub fn floor_is_least()
 // What opening fills the table and the list with.
 pub fn opening_fills()
     ensures { OpeningFills }
+{}
+
+// A call of advance goes from expansion to expansion, each of the node whose entry comes first, child by child.
+pub fn advance_visits()
+    ensures { AdvanceVisits }
 {}

@@ -10,7 +10,7 @@ use Rattle.loader.specs.View.{leads}
 use Rattle.schedule.specs.ListSchedule.{listed, next_task, earliest}
 use Rattle.astar.specs.Expansion.{visited, expanded}
 use Rattle.astar.specs.Advance.{advanced}
-use Rattle.cases.specs.Table.{ExampleRead, Levels, ListSchedule, Bounds, Checks, Overlaps, Refused, Searches, ExampleSearched, Numbers, ExamplePage, WithDuplicates, FiveTasks}
+use Rattle.cases.specs.Table.{ExampleRead, Levels, ListSchedule, Bounds, Checks, Overlaps, Refused, Searches, ExampleSearched, Numbers, Wordings, ExamplePage, WithDuplicates, FiveTasks}
 use Rattle.std.specs.Fmt.{digits}
 use Rattle.page.specs.Texts.{report_text}
 
@@ -64,3 +64,7 @@ with-duplicates = ((refl, refl, refl), (refl, refl, refl))
 pub five-tasks : FiveTasks
 unfolding any first level listed next_task earliest normal_form append tried choices is_duplicate is_held is_orderly is_complete visited expanded advanced
 five-tasks = (refl, refl, refl)
+
+pub wordings : Wordings
+unfolding digits
+wordings = (refl, refl, refl, refl, refl, refl)

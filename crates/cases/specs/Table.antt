@@ -27,6 +27,7 @@ use Rattle.schedule.specs.declared.fault.CheckFault.TheVariants as check_faults
 use Rattle.search.specs.declared.fault.SearchFault.TheVariants as search_faults
 use Rattle.search.specs.declared.fault.PageFault.TheVariants as page_faults
 use Rattle.search.specs.Refusals.{search_refusal, page_refusal}
+use Rattle.refusal.specs.Wording.{wording}
 use Rattle.search.specs.Runs.{Moment}
 use Rattle.page.specs.Pages.{text_of}
 
@@ -175,6 +176,16 @@ Numbers =
     × (check_refusal (check_faults.Overlap 1) ≡ refused 15 1 Check)
     × (page_refusal (page_faults.Search search_faults.Foreign) ≡ refused 11 0 SearchLayer)
     × (page_refusal page_faults.Short ≡ refused 16 0 PageLayer)
+
+-- and as they are worded, one of each layer
+abbrev pub Wordings : Type 0
+Wordings =
+    (wording (refused 1 0 Bytes) ≡ codes "refused 1 at 0 in bytes")
+    × (wording (refused 2 14 Records) ≡ codes "refused 2 at 14 in records")
+    × (wording (refused 8 8 GraphLayer) ≡ codes "refused 8 at 8 in graph")
+    × (wording (refused 11 0 SearchLayer) ≡ codes "refused 11 at 0 in search")
+    × (wording (refused 14 2 Check) ≡ codes "refused 14 at 2 in check")
+    × (wording (refused 16 0 PageLayer) ≡ codes "refused 16 at 0 in page")
 
 -- the page of the example, searched to its end and settled
 abbrev example_end : Moment

@@ -1,4 +1,4 @@
-ghost use Rattle.cases.specs.Table.{ExampleRead, Levels, ListSchedule, Bounds, Checks, Overlaps, Refused, Searches, ExampleSearched, Numbers, ExamplePage, WithDuplicates, FiveTasks};
+ghost use Rattle.cases.specs.Table.{ExampleRead, Levels, ListSchedule, Bounds, Checks, Overlaps, Refused, Searches, ExampleSearched, Numbers, Wordings, ExamplePage, WithDuplicates, FiveTasks};
 
 // The worked cases, as equalities that the checker computes.
 pub fn worked_cases()
@@ -12,6 +12,7 @@ pub fn worked_cases()
     ensures searches { Searches }
     ensures searched { ExampleSearched }
     ensures numbers { Numbers }
+    ensures wordings { Wordings }
     ensures page { ExamplePage }
     ensures duplicates { WithDuplicates }
     ensures five { FiveTasks }

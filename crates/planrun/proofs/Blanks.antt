@@ -17,10 +17,6 @@ use Rattle.planrun.specs.Planning.{page_at, Written, TextOf, search_end}
 
 -- Blank nodes and slots, and the front of a buffer.
 
-pub ok-more : {S E : Type 0} (P Q : S → Type 0) (r : Result S E) → IfOk r P → ((s : S) → P s → Q s) → IfOk r Q
-ok-more P Q (Ok s) p f = f s p
-ok-more P Q (Err e) p f = tt
-
 all-blank : (n : ℕ) (x : Node) → the_node x ≡ no_node → map the_node (replicate n x) ≡ replicate n no_node
 all-blank zero x e = refl
 all-blank (suc n) x e = let r = all-blank n x e in rw (e, r)

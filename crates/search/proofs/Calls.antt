@@ -14,11 +14,13 @@ use Rattle.schedule.specs.ListSchedule.{listed}
 use Rattle.astar.specs.declared.sizes.Sizes.{Sizes}
 use Rattle.astar.specs.declared.outcome.Outcome.{Outcome}
 use Rattle.astar.specs.declared.outcome.Outcome.TheVariants.{Strange}
-use Rattle.astar.specs.States.{SearchState}
+use Rattle.astar.specs.States.{SearchState, used}
 use Rattle.astar.specs.Opening as opening
 use Rattle.astar.specs.Advance as advance
 use Rattle.astar.specs.Endings.{EndsBy, GoesOnTo}
+use Rattle.astar.specs.Course.{Course}
 use Rattle.astar.proofs.Ending.{advance-ends}
+use Rattle.astar.proofs.Coursing.{advance-visits}
 use Rattle.search.specs.declared.fault.SearchFault.{SearchFault}
 use Rattle.search.specs.declared.fault.SearchFault.TheVariants.{Table, List as NoRoom, Unsettled}
 use Rattle.search.specs.Calls.{open_fault, floor_fault, settle_fault, best_fault, answer_or}
@@ -66,6 +68,9 @@ module _ (g : Graph) (b : Bound) (k : ℕ) (m : Moment) (z : Sizes) (w : SearchS
   advance-ended L r =
       subst (λ (x : SearchState × Outcome). EndsBy g m.sizes m.limit k m.state x × GoesOnTo g b m.sizes m.limit k m.state x.0) (sym is)
       (advance-ends g b m.sizes m.limit k m.state L r)
+
+  pub advance-course : Lawful g → InOrder entry_before m.state.bag → used m.state ≤ m.sizes.nodes → Course g b m.state w
+  advance-course L r h = subst (Course g b m.state) (sym (ap (λ (x : SearchState × Outcome). x.0) is)) (advance-visits g b m.sizes m.limit k m.state L r h)
 
   pub advance-run : Run g b false m → Run g b false (record { sizes = z; state = w; limit = limit })
   advance-run r = subst (Run g b false) (sym advance-leads) (advanced k r)

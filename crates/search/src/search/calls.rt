@@ -11,6 +11,7 @@ ghost use Rattle.astar.specs.States.{best_length};
 ghost use Rattle.astar.specs.Opening.{sizes_of, opened};
 ghost use Rattle.astar.specs.Advance.{advanced};
 ghost use Rattle.astar.specs.Endings.{EndsBy, GoesOnTo};
+ghost use Rattle.astar.specs.Course.{Course};
 ghost use Rattle.astar.specs.Laws as laws;
 ghost use Rattle.refusal.specs.Refusing.{Refuses};
 ghost use Rattle.search.specs.Refusals.{search_refusal, page_refusal};
@@ -81,6 +82,9 @@ impl Search {
             (the_state self.new.tally table.new (L.bag list.new), result) }
         ensures onward { GoesOnTo (the_graph g.now) (B.number rule.now) self.old.sizes
             (L.limit list.old) budget (the_state self.old.tally table.old (L.bag list.old))
+            (the_state self.new.tally table.new (L.bag list.new)) }
+        ensures course { Course (the_graph g.now) (B.number rule.now)
+            (the_state self.old.tally table.old (L.bag list.old))
             (the_state self.new.tally table.new (L.bag list.new)) }
         ensures still { self.new.tally.expanded ≡ self.old.tally.expanded → list.new ≡ list.old }
         ensures kept { Kept L.kept list.old list.new }

@@ -1,0 +1,5 @@
+use Rattle.astar.proofs.Coursing.{advance-visits}
+use Rattle.astar.proofs.laws.advance_visits.Goals as goal
+
+pub returns : goal.returns
+returns c = advance-visits
