@@ -77,12 +77,15 @@ OpeningStands = (g : Graph) (b : Bound) (s : Partial) (ns : List SearchNode) (li
     → IsLowerBound b → Reachable g s → Complete g s → 2 ≤ length ns → length ns ≤ limit
     → Standing g (sizes_of g ns) limit (opened g b s ns)
 
--- the floor is above neither the best length nor an entry's bound, and it is one of these
+-- y is above neither the best length nor an entry's bound, and it is one of these
+abbrev pub LeastOf : SearchState → ℕ → Type 0
+LeastOf w y = (y ≤ best_length w)
+    × ((e : Entry) → Contains w.bag e → y ≤ e.bound)
+    × ((y ≡ best_length w) ⊎ ((e : Entry) × Contains w.bag e × (y ≡ e.bound)))
+
+-- so is the floor
 abbrev pub FloorIsLeast : Type 0
-FloorIsLeast = (w : SearchState) → InOrder entry_before w.bag
-    → (floor w ≤ best_length w)
-    × ((e : Entry) → Contains w.bag e → floor w ≤ e.bound)
-    × ((floor w ≡ best_length w) ⊎ ((e : Entry) × Contains w.bag e × (floor w ≡ e.bound)))
+FloorIsLeast = (w : SearchState) → InOrder entry_before w.bag → LeastOf w (floor w)
 
 -- opening with a schedule: it fills node 0 with its makespan and does not wait; the empty partial schedule waits in node
 -- 1 with the rule's number for it; each other node is as it was; the one entry is that of node 1; and nothing is counted

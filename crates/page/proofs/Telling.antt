@@ -24,7 +24,8 @@ use Rattle.search.proofs.Refusing.{refuses-by, write-tells}
 use Rattle.search.proofs.Calls.{promised-to}
 use Rattle.page.specs.Texts.{report_text}
 use Rattle.page.specs.Pages.{closing_of, page_of, text_of, short_fault, page_fault, Truthful, EndsTruly}
-use Rattle.page.proofs.Texts.{text-agrees, rows-agree}
+use Rattle.search.proofs.Written.{rows-agree}
+use Rattle.page.proofs.Texts.{text-agrees}
 
 -- What a page tells, by the answers of the search.
 

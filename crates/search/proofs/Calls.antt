@@ -1,4 +1,4 @@
-use Rattle.std.proofs.Common.{◌≡◌, ℕ, ◌≤◌, ◌≢◌, Bool, true, false, cond, ◌||◌, ltb, List, [], length, Some, None, Ok, Err, Result, MatchResult, IfOk, sym, refl, ap, ◌∙◌, subst, arith}
+use Rattle.std.proofs.Common.{◌≡◌, ℕ, ◌≤◌, ◌≢◌, Bool, true, false, cond, ◌||◌, ltb, List, [], length, Some, None, Option, Ok, Err, Result, MatchResult, IfOk, sym, refl, ap, ◌∙◌, subst, arith}
 use Rattle.std.proofs.lemmas.Bool.{le-ltb, ltb-true}
 use Rattle.model.specs.Graph.{Graph, Lawful}
 use Rattle.model.specs.Schedule.{Schedule, Feasible, makespan}
@@ -20,6 +20,8 @@ use Rattle.astar.specs.Advance as advance
 use Rattle.astar.specs.Endings.{EndsBy, GoesOnTo}
 use Rattle.astar.specs.Course.{Course}
 use Rattle.astar.proofs.Ending.{advance-ends}
+use Rattle.astar.specs.Laws as laws
+use Rattle.astar.proofs.Told.{floor-is-least}
 use Rattle.astar.proofs.Coursing.{advance-visits}
 use Rattle.search.specs.declared.fault.SearchFault.{SearchFault}
 use Rattle.search.specs.declared.fault.SearchFault.TheVariants.{Table, List as NoRoom, Unsettled}
@@ -120,3 +122,12 @@ module _ (g : TaskGraph) (m : Moment) (r : InRun (the_graph g) false m) where
       go : (b : Bool) → ltb (floor m) (promise.length m) ≡ b → Some e ≡ cond b (Some Unsettled) None → (floor m ≡ promise.length m → ⊥) × (e ≡ Unsettled)
       go true q z = ((λ k. absurd (omega (arith, ltb-true _ _ q, k))), cc)
       go false q z = cc
+
+-- what floor answers is the least
+pub floor-least : (w : SearchState) (o : Option SearchFault) (r : Result ℕ SearchFault) → InOrder entry_before w.bag
+    → r ≡ answer_or (laws.floor w) o → IfOk r (laws.LeastOf w)
+floor-least w o r i e = rw e (go o)
+  where
+    go : (o : Option SearchFault) → IfOk (answer_or (laws.floor w) o) (laws.LeastOf w)
+    go None = floor-is-least w i
+    go (Some f) = tt

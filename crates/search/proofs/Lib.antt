@@ -7,3 +7,4 @@ pub mod Rows
 pub mod Calls
 pub mod Keeping
 pub mod Refusing
+pub mod Written

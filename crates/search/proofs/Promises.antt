@@ -58,6 +58,7 @@ module _ (g : Graph) (m : Moment) where
           settles = settles-of S;
           shortest = λ e. (B.0, λ q F. omega (arith, B.1, (settles-of S).0 e, floor-holds g m.state L S.invariant q F));
           settled = over;
+          apart = S.invariant.apart;
           answers = rw S.own refl;
           writes = rw (S.own, best-right, le-ltb g.tasks g.tasks (omega arith)) refl;
           never = λ k. (advance-keeps g b m.sizes m.limit k m.state L lower S).3;

@@ -151,3 +151,13 @@ module _ (g : TaskGraph) (m : Moment) where
 
   pub settle-refused : (f : SearchFault) → settle_fault (the_graph g) m.sizes m.state m.limit ≡ Some f → SettleRefused (the_graph g) m.sizes m.limit m.state (search_refusal f)
   settle-refused f e = subst (Tells (SettleRefused (the_graph g) m.sizes m.limit m.state) search_refusal) e (settle-tells (the_graph g) (the_lawful g) m.sizes m.limit m.state)
+
+  -- where best is accepted, node 0 holds a schedule with its makespan
+  pub holds-best : (room : ℕ) → best_fault (the_graph g) m.sizes m.state m.limit room ≡ None → HoldsBest (the_graph g) (node_at m.state.nodes 0)
+  holds-best room e = go (is_own (the_graph g) m.sizes m.state m.limit) (is_best (the_graph g) (node_at m.state.nodes 0)) refl (ltb room (the_graph g).tasks) e
+    where
+      go : (a b : Bool) → is_best (the_graph g) (node_at m.state.nodes 0) ≡ b → (c : Bool)
+          → cond (a && b) (cond c (Some page_faults.Short) None) (Some (page_faults.Search faults.Foreign)) ≡ None → HoldsBest (the_graph g) (node_at m.state.nodes 0)
+      go true true q c e = holds (the_graph g) (the_lawful g) m.sizes m.limit m.state (node_at m.state.nodes 0) q
+      go true false q c e = cc
+      go false b q c e = cc

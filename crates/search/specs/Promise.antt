@@ -4,6 +4,7 @@ use Rattle.model.specs.Schedule.{Schedule, Feasible, makespan}
 use Rattle.model.specs.Bounds.{Bound, IsLowerBound}
 use Rattle.astar.specs.declared.outcome.Outcome.TheVariants.{Strange}
 use Rattle.astar.specs.States as states
+use Rattle.astar.specs.Invariant.{Apart}
 use Rattle.astar.specs.Laws as laws
 use Rattle.astar.specs.Advance.{advanced}
 use Rattle.search.specs.Calls.{best_fault, floor_fault}
@@ -38,6 +39,8 @@ pub record Promise (g : Graph) (b : Bound) (done : Bool) (m : Moment) : Type 0 w
   -- the memory is never foreign, and advance never answers Strange
   pub answers : floor_fault g m.sizes m.state m.limit ≡ None
   pub writes : best_fault g m.sizes m.state m.limit g.tasks ≡ None
+  -- no two used nodes above 0 are duplicates, and node 0 does not wait
+  pub apart : Apart m.state
   pub never : (k : ℕ) → (advanced g b m.sizes m.limit k m.state).1 ≢ Strange
 
 -- since an earlier point of a run the floor has not fallen and the best length has not risen

@@ -1,8 +1,9 @@
-ghost use Rattle.std.specs.Prelude.{◌≡◌, ◌≢◌, ◌≤◌, ◌↔◌, Bool, true, false, length, Some, None, Ok, MatchResult, IsOk, IfOk, IfErr};
+ghost use Rattle.std.specs.Prelude.{◌≡◌, ◌+◌, ◌≢◌, ◌≤◌, ◌↔◌, Bool, true, false, length, Some, None, Ok, MatchResult, IsOk, IfOk, IfErr};
 ghost use Rattle.model.specs.Schedule.{Schedule, Feasible, makespan};
 ghost use Rattle.model.specs.Bounds.{Bound};
 ghost use Rattle.model.specs.Nodes.{node_at};
 ghost use Rattle.loader.specs.Meaning.{the_graph};
+ghost use Rattle.schedule.specs.Rows.{schedule_of};
 ghost use Rattle.schedule.specs.ListSchedule.{listed};
 ghost use Rattle.nodes.specs.Meaning.{the_nodes};
 ghost use Rattle.queue.specs.Keeping.{Kept};
@@ -118,6 +119,8 @@ impl Search {
             (the_state self.now.tally table.now (L.bag list.old)) (L.limit list.old)) }
         ensures refused { Refuses (FloorRefused (the_graph g.now) self.now.sizes (L.limit list.old)
             (the_state self.now.tally table.now (L.bag list.old))) search_refusal result }
+        ensures least { IfOk result (λ v. laws.LeastOf
+            (the_state self.now.tally table.now (L.bag list.old)) v) }
         ensures same { list.new ≡ list.old }
         ensures run { (done : Bool)
             → InRun (the_graph g.now) done
@@ -134,7 +137,10 @@ impl Search {
 
     // What the search has done.
     pub fn tally(&self) -> Tally
-        ensures { result ≡ self.now.tally }
+        ensures is { result ≡ self.now.tally }
+        ensures made { result.generated
+            ≡ result.stored + result.duplicates + result.pruned + result.complete }
+        ensures waiting { result.waiting + result.expanded ≡ result.stored + 1 }
     {
         self.tally
     }
@@ -162,6 +168,8 @@ impl Search {
             (best_fault (the_graph g.now) self.now.sizes
             (the_state self.now.tally table.now (L.bag list.old)) (L.limit list.old)
             (length rows.old)) }
+        ensures written { IfOk result (λ v. Feasible (the_graph g.now) (schedule_of rows.new)
+            × (makespan (the_graph g.now) (schedule_of rows.new) ≡ v)) }
         ensures same { list.new ≡ list.old }
         ensures run { (done : Bool)
             → InRun (the_graph g.now) done

@@ -2,6 +2,7 @@ use Rattle.std.proofs.Common.{◌∙◌, length}
 use Rattle.search.proofs.Calls.{promised-to, best-run}
 use Rattle.search.specs.States.{moment}
 use Rattle.search.proofs.Refusing.{best-refuses}
+use Rattle.search.proofs.Written.{best-written}
 use Rattle.search.proofs.search.Search.best.Goals as goal
 
 pub returns-clause-promise : goal.returns-clause-promise
@@ -12,3 +13,6 @@ returns-clause-run g c done r h = let x = best-run c.args.g.now done _ r (length
 
 pub returns-clause-refused : goal.returns-clause-refused
 returns-clause-refused g c = best-refuses c.args.g.now (moment c.args.self.now c.args.table.now (g.L.OpenList.bag c.args.list.now) (g.L.OpenList.limit c.args.list.now)) (length c.args.rows.now) _ c.write_best.result c.write_best.ensures.is
+
+pub returns-clause-written : goal.returns-clause-written
+returns-clause-written g c = best-written c.args.g.now (moment c.args.self.now c.args.table.now (g.L.OpenList.bag c.args.list.now) (g.L.OpenList.limit c.args.list.now)) c.args.rows.now _ c.write_best.result c.write_best.ensures.is c.write_best.ensures.rows
