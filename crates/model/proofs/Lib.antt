@@ -20,3 +20,4 @@ pub mod Paths
 pub mod Chains
 pub mod Passing
 pub mod Orderly
+pub mod Measuring

@@ -90,7 +90,7 @@ module _ (g : Graph) (s : Partial) (p : Schedule) (V : Obeys g s) (C : Completio
       omega (arith, work-split, sum-const g.machines (makespan g p))
 
 -- a load that the machines have room for does not pass it on average either, rounded up
-ceil-le : (a b y : ℕ) → 0 < b → a ≤ b * y → div_ceil a b ≤ y
+pub ceil-le : (a b y : ℕ) → 0 < b → a ≤ b * y → div_ceil a b ≤ y
 ceil-le a b y h l =
     let q : div_ceil a b * b < (y + 1) * b = omega (arith, (div_ceil_times a b h).1, l, mul_comm b y, add-mul y 1 b) in
     omega (arith, lt_of_mul-lt-mul_right b q)

@@ -10,4 +10,5 @@ pub mod Children
 pub mod Bounds
 pub mod Nodes
 pub mod Soundness
+pub mod Measures
 pub mod Laws

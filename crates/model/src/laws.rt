@@ -7,6 +7,15 @@ ghost use Rattle.model.specs.Laws.{
   ChildrenCover,
   CompleteIsFeasible,
 };
+ghost use Rattle.model.specs.Measures.{
+  MakespanIsGreatest,
+  LoadIsLeast,
+  PathIsGreatest,
+  EarliestIsLeast,
+  ArrivalIsGreatest,
+  LargerIsGreatest,
+  AppendIsLeast,
+};
 
 // Each theorem of the model is the promise of a function of its name.
 
@@ -39,4 +48,39 @@ pub fn children_cover()
 // A complete partial schedule that is reachable is feasible.
 pub fn complete_is_feasible()
     ensures { CompleteIsFeasible }
+{}
+
+// The makespan is some task's finish, and none is later.
+pub fn makespan_is_greatest()
+    ensures { MakespanIsGreatest }
+{}
+
+// Load is the least number that makes room on each machine for all work and idle time.
+pub fn load_is_least()
+    ensures { LoadIsLeast }
+{}
+
+// Path is attained by some task and exceeded by none.
+pub fn path_is_greatest()
+    ensures { PathIsGreatest }
+{}
+
+// Earliest data is attained on some machine, and on none it is less.
+pub fn earliest_is_least()
+    ensures { EarliestIsLeast }
+{}
+
+// Arrival is attained by some free task and exceeded by none.
+pub fn arrival_is_greatest()
+    ensures { ArrivalIsGreatest }
+{}
+
+// The larger of two bounds is one of them, and neither is more.
+pub fn larger_is_greatest()
+    ensures { LargerIsGreatest }
+{}
+
+// Appending puts a task at the least start that is not before any arrival nor before the machine's finish.
+pub fn append_is_least()
+    ensures { AppendIsLeast }
 {}
