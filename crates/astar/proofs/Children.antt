@@ -36,8 +36,8 @@ module _ (g : Graph) (L : Lawful g) (s : Partial) (R : Reachable g s) (x : ℕ �
       put_other s.placed x.0 true t ne ∙ none t h
 
   -- its bound, the greater of its parent's and a rule's, is one
-  pub chosen-under : (b : Bound) → IsLowerBound b → (up : ℕ) → ((p : Schedule) → Completion g s p → up ≤ makespan g p)
+  pub chosen-under : ((t : ℕ) → g.tasks ≤ t → s.placed t ≡ false) → (b : Bound) → IsLowerBound b → (up : ℕ) → ((p : Schedule) → Completion g s p → up ≤ makespan g p)
       → (p : Schedule) → Completion g (child g s x) p → max up (b g (child g s x)) ≤ makespan g p
-  chosen-under b lower up under p C =
+  chosen-under none b lower up under p C =
       let q = child-completion g s x.0 x.1 p L R chosen-task chosen-machine C in
-      omega (arith, q.2, under _ q.1, lower g (child g s x) p L chosen-reachable C)
+      omega (arith, q.2, under _ q.1, lower g (child g s x) p L chosen-reachable (chosen-tasks none) C)

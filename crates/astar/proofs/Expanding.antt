@@ -81,7 +81,7 @@ module _ (g : Graph) (L : Lawful g) (b : Bound) (lower : IsLowerBound b) (w : Se
       S = visit-step g (DueOf i done) v G.grown (child g x.partial c)
           (chosen-reachable g L x.partial R c k)
           (chosen-tasks g L x.partial R c k (λ t. I.grown.tasks i t u))
-          b x.bound (chosen-under g L x.partial R c k b lower x.bound (I.grown.under i u)) room
+          b x.bound (chosen-under g L x.partial R c k (λ t. I.grown.tasks i t u) b lower x.bound (I.grown.under i u)) room
 
   -- all children, one after the other
   going-all : (todo done : List (ℕ × ℕ)) (v : SearchState) → ((c : ℕ × ℕ) → Contains todo c → Contains (choices g x.partial) c)

@@ -36,7 +36,7 @@ module _ (g : Graph) (b : Bound) (s : Partial) (ns : List SearchNode) (L : Lawfu
   size = length-set (set ns 0 (best_node g s)) 1 root ∙ length-set ns 0 (best_node g s)
 
   root-fresh : FreshNode g root
-  root-fresh = (none (λ t h. refl), (0, L.numbers.sizes.0, refl), (λ t h. refl), (λ p C. lower g nothing p L (none (λ t h. refl)) C), refl)
+  root-fresh = (none (λ t h. refl), (0, L.numbers.sizes.0, refl), (λ t h. refl), (λ p C. lower g nothing p L (none (λ t h. refl)) (λ t h. refl) C), refl)
 
   one : (i : ℕ) → InUse w i → i ≡ 1
   one i u = omega (arith, u.0, u.1)

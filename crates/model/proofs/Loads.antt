@@ -96,4 +96,4 @@ ceil-le a b y h l =
     omega (arith, lt_of_mul-lt-mul_right b q)
 
 pub load-lower : IsLowerBound load_bound
-load-lower g s p L R C = ceil-le (load g s) g.machines (makespan g p) (L.numbers.sizes.2) (load-fits g s p (reachable-obeys g (lawful-dag L) R) C)
+load-lower g s p L R W C = ceil-le (load g s) g.machines (makespan g p) (L.numbers.sizes.2) (load-fits g s p (reachable-obeys g (lawful-dag L) R) C)

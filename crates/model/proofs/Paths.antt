@@ -31,7 +31,7 @@ unfolding level
 level-ends g S p M t ht = chain-ends g S p M g.tasks t ht
 
 pub path-lower : IsLowerBound path_bound
-path-lower g s p L R C =
+path-lower g s p L R W C =
     let S = lawful-dag L in
     let ends = level-ends g S p C.feasible in
     let a = top-le g.tasks (level g) (makespan g p) (λ t h. omega (arith, ends t h)) in
@@ -39,9 +39,9 @@ path-lower g s p L R C =
     omega arith
 
 pub arrival-lower : IsLowerBound arrival_bound
-arrival-lower g s p L R C = top-le g.tasks (arrival_at g s) (makespan g p) (λ t h. cond-le (is_free g s t) _ (makespan g p) (λ q.
+arrival-lower g s p L R W C = top-le g.tasks (arrival_at g s) (makespan g p) (λ t h. cond-le (is_free g s t) _ (makespan g p) (λ q.
     let S = lawful-dag L in
     omega (arith, least-le g.machines (data_ready g s t) (p.machine t) (C.feasible.on t h), ready-le g S s p C t (test-free g s t q), level-ends g S p C.feasible t h)))
 
 pub larger-lower : (a b : Bound) → IsLowerBound a → IsLowerBound b → IsLowerBound (larger a b)
-larger-lower a b x y g s p L R C = omega (arith, x g s p L R C, y g s p L R C)
+larger-lower a b x y g s p L R W C = omega (arith, x g s p L R W C, y g s p L R W C)

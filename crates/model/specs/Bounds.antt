@@ -1,4 +1,4 @@
-use Rattle.std.specs.Prelude.{ℕ, ◌+◌, ◌-◌, ◌≤◌, max, if◌then◌else◌}
+use Rattle.std.specs.Prelude.{◌≡◌, false, ℕ, ◌+◌, ◌-◌, ◌≤◌, max, if◌then◌else◌}
 use Rattle.std.specs.Int.{div_ceil}
 use Rattle.model.specs.Range.{top, least, sum}
 use Rattle.model.specs.Graph.{Graph, Lawful, level}
@@ -11,10 +11,15 @@ use Rattle.model.specs.Completion.{Completion}
 abbrev pub Bound : Type 0
 Bound = Graph → Partial → ℕ
 
--- it is a lower bound when no completion of a partial schedule that is reachable is shorter
+-- it places no task that the graph lacks
+abbrev pub Within : Graph → Partial → Type 0
+Within g s = (t : ℕ) → g.tasks ≤ t → s.placed t ≡ false
+
+-- it is a lower bound when no completion of a partial schedule that is reachable, and places no task that the graph
+-- lacks, is shorter
 abbrev pub IsLowerBound : Bound → Type 0
 IsLowerBound b = (g : Graph) (s : Partial) (p : Schedule) → Lawful g → Reachable g s
-    → Completion g s p → b g s ≤ makespan g p
+    → Within g s → Completion g s p → b g s ≤ makespan g p
 
 -- start plus bottom level of a placed task
 abbrev pub path_at : Graph → Partial → ℕ → ℕ

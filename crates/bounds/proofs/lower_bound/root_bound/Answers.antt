@@ -13,4 +13,4 @@ returns-clause-lower g c =
     let G = the_graph c.args.g.now in
     let s = the_partial c.empty.result in
     let empty : Empty G s = λ t h. ap (λ (q : Partial). q.placed t) c.empty.ensures in
-    λ p M. omega (arith, c.bound.ensures, g.met.B.LowerBound.lower c.args.rule.now G s p (the_lawful c.args.g.now) (none empty) (empty-completed G s p empty M))
+    λ p M. omega (arith, c.bound.ensures, g.met.B.LowerBound.lower c.args.rule.now G s p (the_lawful c.args.g.now) (none empty) (λ t h. ap (λ (q : Partial). q.placed t) c.empty.ensures) (empty-completed G s p empty M))
