@@ -64,7 +64,7 @@ module _ (g : Graph) (b : Bound) (z : Sizes) (limit allowed : ℕ) (L : Lawful g
           let s = sound (is_sound g w e) refl f in
           let fits = roomy f in
           let x : ByChildren g b w e.node (expanded g b w (next_node w.bag)) =
-              subst (λ j. ByChildren g b w e.node (expanded g b w j)) (sym i) (expansion-visits-all g b w e.node (omega (arith, s.right.0.1, room, size)) fits) in
+          subst (λ j. ByChildren g b w e.node (expanded g b w j)) (sym i) (expansion-visits-all g b w e.node (omega (arith, s.right.0.1, room, size)) fits) in
           (e, f, x, omega (arith, x.tallied.put, count-le kept x.ends, x.as_many, fits, size))
         where
           sound : (v : Bool) → is_sound g w e ≡ v → first w.bag ≡ Some e → Sound g w e

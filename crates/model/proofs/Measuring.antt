@@ -59,9 +59,9 @@ pub path-is-greatest : PathIsGreatest
 path-is-greatest g s h = record {
   holds = elim (dec_lt (top g.tasks (level g)) (top g.tasks (path_at g s))) [
     | yes l ↦
-      let x = top-at g.tasks (path_at g s) h in
-      let c = counts (s.placed x.0) (s.start x.0 + level g x.0) (omega (arith, x.2, l)) in
-      (x.0, x.1, inr (c.0, omega (arith, x.2, c.1, l)))
+        let x = top-at g.tasks (path_at g s) h in
+        let c = counts (s.placed x.0) (s.start x.0 + level g x.0) (omega (arith, x.2, l)) in
+        (x.0, x.1, inr (c.0, omega (arith, x.2, c.1, l)))
     | no l ↦ let x = top-at g.tasks (level g) h in (x.0, x.1, inl (omega (arith, x.2, l)))
   ];
   greatest = λ y x. ⊎_elim
@@ -88,9 +88,9 @@ module _ (g : Graph) (s : Partial) where
   unfolding value
   attained t F = elim (dec_lt 0 (arrival_bound g s)) [
     | yes l ↦
-      let x = top-at g.tasks (arrival_at g s) (omega (arith, F.0)) in
-      let c = counts (is_free g s x.0) (earliest_data g s x.0 + level g x.0) (omega (arith, x.2, l)) in
-      (x.0, test-free g s x.0 c.0, omega (arith, x.2, c.1))
+        let x = top-at g.tasks (arrival_at g s) (omega (arith, F.0)) in
+        let c = counts (is_free g s x.0) (earliest_data g s x.0 + level g x.0) (omega (arith, x.2, l)) in
+        (x.0, test-free g s x.0 c.0, omega (arith, x.2, c.1))
     | no l ↦ (t, F, omega (arith, l, reaches t F))
   ]
 
@@ -114,9 +114,11 @@ larger-is-greatest a b g s = record {
 starts-late : (g : Graph) (s : Partial) (t m : ℕ) → Least (Late g s t m) (start_on g s t m)
 starts-late g s t m = record {
   holds = ((λ k h e. omega (arith, ready-has g s t m k h e)), λ u h p q. omega (arith, finish-has g s m u h p q));
-  least = λ y l. omega (arith,
-      top-le g.count (arrival g s t m) y (λ k h. cond-le _ _ y (λ q. l.0 k h (eqb-true _ _ q))),
-      finish-le g s m y l.1);
+  least = λ y l. omega (
+    arith,
+    top-le g.count (arrival g s t m) y (λ k h. cond-le _ _ y (λ q. l.0 k h (eqb-true _ _ q))),
+    finish-le g s m y l.1,
+  );
 }
 
 pub append-is-least : AppendIsLeast

@@ -1,12 +1,12 @@
 ghost use Rattle.std.specs.Prelude.{false};
 
+use crate::closing::Closing;
 use crate::page::{BLANK, Page};
+use crate::report::Report;
 use crate::write::write;
 use loader::graph::TaskGraph;
 use nodes::table::Table;
 use queue::open_list::OpenList;
-use crate::closing::Closing;
-use crate::report::Report;
 use search::fault::PageFault;
 use search::search::Search;
 

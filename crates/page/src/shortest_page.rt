@@ -1,13 +1,13 @@
 ghost use Rattle.std.specs.Prelude.{true};
 ghost use Rattle.search.specs.States.{search_of};
 
+use crate::closing::Closing;
 use crate::page::{BLANK, Page};
+use crate::report::Report;
 use crate::write::write;
 use loader::graph::TaskGraph;
 use nodes::table::Table;
 use queue::open_list::OpenList;
-use crate::closing::Closing;
-use crate::report::Report;
 use search::fault::PageFault;
 use search::search::Settled;
 

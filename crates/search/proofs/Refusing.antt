@@ -109,8 +109,8 @@ module _ (g : Graph) (L : Lawful g) (z : Sizes) (limit : ℕ) (w : SearchState) 
   holds x e =
       let a = and_parts (is_complete g x.partial) _ e in
       let f = judged-cases g (whole x.partial) (λ r. passes_with r x.bound ≡ true → Feasible g (whole x.partial) × (makespan g (whole x.partial) ≡ x.bound))
-          (λ t h q. clash false q refl) (λ t h i q. clash false q refl) (λ t h i j q. clash false q refl)
-          (λ h i j q. (obeys-all g (whole x.partial) L.numbers.ends h i j, eqb-true _ _ q)) a.1 in
+      (λ t h q. clash false q refl) (λ t h i q. clash false q refl) (λ t h i j q. clash false q refl)
+      (λ h i j q. (obeys-all g (whole x.partial) L.numbers.ends h i j, eqb-true _ _ q)) a.1 in
       (complete-all g x.partial a.0, f.0, f.1)
 
   hold : (x : SearchNode) → HoldsBest g x → is_best g x ≡ true
