@@ -1,6 +1,6 @@
 ghost use Rattle.std.specs.Prelude.{◌≡◌, ℕ, ◌+◌, ◌≤◌, ◌↔◌, ◌++◌, map, length, Contains, AllPairs};
 ghost use Rattle.model.specs.Partial.{Free};
-ghost use Rattle.model.specs.Reachable.{Reachable};
+ghost use Rattle.model.specs.NormalForm.{OnMachines};
 ghost use Rattle.model.specs.Children.{Tried, ChoiceFirst, choices};
 ghost use Rattle.model.specs.Soundness.{Orderly};
 ghost use Rattle.loader.specs.Meaning.{the_graph};
@@ -38,7 +38,7 @@ impl Choices {
     // Every free task ascending, on each used machine ascending, then on the lowest empty one.
     pub fn of(g: &TaskGraph, q: &PartialSchedule) -> Choices
         ensures is { the_choices result ≡ choices (the_graph g.now) (the_partial q.now) }
-        ensures which { (t m : ℕ) → Reachable (the_graph g.now) (the_partial q.now)
+        ensures which { (t m : ℕ) → OnMachines (the_graph g.now) (the_partial q.now)
             → Contains (the_choices result) (t, m)
             ↔ (Free (the_graph g.now) (the_partial q.now) t
             × Tried (the_graph g.now) (the_partial q.now) m) }

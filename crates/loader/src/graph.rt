@@ -32,7 +32,9 @@ impl TaskGraph {
 
     // The smallest graph: one task of work 1, one machine, no transfers.
     pub fn new() -> TaskGraph
-        ensures { description result ≡ smallest }
+        ensures is { description result ≡ smallest }
+        ensures words { let g = the_graph result in
+            (g.tasks ≡ 1) × (g.work 0 ≡ 1) × (g.machines ≡ 1) × (g.count ≡ 0) }
     {
         TaskGraph {
             tasks: 1,

@@ -3,7 +3,7 @@ use Rattle.model.specs.Graph.{Graph, Ends, Acyclic, Lawful}
 use Rattle.model.specs.Cycles.{cyclic, LowestOnCycle}
 use Rattle.model.specs.Schedule.{Schedule, Feasible, makespan}
 use Rattle.model.specs.Partial.{Partial, Free, Complete, Unfinished, whole}
-use Rattle.model.specs.NormalForm.{Renaming}
+use Rattle.model.specs.NormalForm.{Renaming, OnMachines}
 use Rattle.model.specs.Reachable.{Reachable, Empty}
 use Rattle.model.specs.Completion.{Completion, on_renamed}
 use Rattle.model.specs.Children.{Tried, ChoiceFirst, choices, child, children}
@@ -25,9 +25,10 @@ ChildCompletesParent = (g : Graph) (s : Partial) (t m : ℕ) (p : Schedule) → 
     → (π : Renaming g.machines) × Completion g s (on_renamed π p)
     × (makespan g (on_renamed π p) ≡ makespan g p)
 
--- the choices are the free tasks on the machines that they are tried on
+-- the choices are the free tasks on the machines that they are tried on, for every partial schedule on machines of the
+-- graph
 abbrev pub ChoicesAre : Type 0
-ChoicesAre = (g : Graph) (s : Partial) (t m : ℕ) → Lawful g → Reachable g s
+ChoicesAre = (g : Graph) (s : Partial) (t m : ℕ) → OnMachines g s
     → Contains (choices g s) (t, m) ↔ (Free g s t × Tried g s m)
 
 -- and they stand in order: each comes first, seen from each later one

@@ -1,11 +1,11 @@
-use Rattle.std.proofs.Common.{◌≡◌, ℕ, ◌<◌, Bool, true, false, ◌&&◌, nat_lt, IsTrue, ◌↔◌, sym, ap, ◌∙◌, subst}
+use Rattle.std.proofs.Common.{◌≡◌, ℕ, ◌<◌, Bool, true, false, ◌&&◌, nat_lt, IsTrue, ◌↔◌, sym, ap, ◌∙◌, subst, arith}
 use borrow.Author.Clash.{clash}
 use Rattle.std.proofs.lemmas.Bool.{lt-ltb, ltb-true, and_from, and_parts}
 use Rattle.model.specs.Graph.{Graph}
 use Rattle.model.specs.Partial.{Partial, Free, is_ready, is_free, append}
 use Rattle.model.specs.NormalForm.{normal_form}
 use Rattle.model.specs.Reachable.{Reachable}
-use Rattle.model.proofs.Starts.{lawful-dag}
+use Rattle.model.proofs.Starts.{lawful-dag, start-reachable}
 use Rattle.model.proofs.Rules.{free-test, test-free, child-reachable}
 use Rattle.loader.specs.declared.graph.TaskGraph.{TaskGraph}
 use Rattle.loader.specs.Meaning.{the_graph}
@@ -29,3 +29,7 @@ opened g s t m b e f = let p = and_parts _ _ (sym e ∙ f) in (test-free g s t p
 pub child_reachable : (g : TaskGraph) (s c : Partial) (t m : ℕ) → Appendable (the_graph g) s t m → c ≡ normal_form (the_graph g) (append (the_graph g) s t m)
     → Reachable (the_graph g) s → Reachable (the_graph g) c
 child_reachable g s c t m A e R = subst (Reachable (the_graph g)) (sym e) (child-reachable (the_graph g) (lawful-dag (the_lawful g)) s t m R A.0 A.1)
+
+-- a free task of a reachable partial schedule can be appended on any machine of the graph
+pub reachable_appendable : (g : TaskGraph) (s : Partial) (t m : ℕ) → Reachable (the_graph g) s → Free (the_graph g) s t → m < (the_graph g).machines → Appendable (the_graph g) s t m
+reachable_appendable g s t m R F l = (F, l, omega (arith, start-reachable (the_graph g) (the_lawful g) R t m F))

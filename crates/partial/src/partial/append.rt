@@ -1,5 +1,5 @@
-ghost use Rattle.std.specs.Prelude.{◌≡◌, ◌&&◌, IfSome, nat_lt};
-ghost use Rattle.model.specs.Partial.{append, is_free, Obeys};
+ghost use Rattle.std.specs.Prelude.{◌≡◌, ◌<◌, ◌&&◌, IfSome, IsSome, nat_lt};
+ghost use Rattle.model.specs.Partial.{Free, append, is_free, Obeys};
 ghost use Rattle.model.specs.NormalForm.{normal_form};
 ghost use Rattle.model.specs.Reachable.{Reachable};
 ghost use Rattle.loader.specs.Meaning.{the_graph};
@@ -23,6 +23,9 @@ impl PartialSchedule {
     pub fn append(&self, g: &TaskGraph, t: usize, m: u8) -> Option<PartialSchedule>
         ensures is { Answers (the_graph g.now) (the_partial self.now) t m
             (append (the_graph g.now) (the_partial self.now) t m) result }
+        ensures some { Reachable (the_graph g.now) (the_partial self.now)
+            → Free (the_graph g.now) (the_partial self.now) t → m < (the_graph g.now).machines
+            → IsSome result }
         ensures keeps_rules { Obeys (the_graph g.now) (the_partial self.now)
             → IfSome result (λ c. Obeys (the_graph g.now) (the_partial c)) }
     {
@@ -40,6 +43,9 @@ impl PartialSchedule {
         ensures is { Answers (the_graph g.now) (the_partial self.now) t m
             (normal_form (the_graph g.now)
             (append (the_graph g.now) (the_partial self.now) t m)) result }
+        ensures some { Reachable (the_graph g.now) (the_partial self.now)
+            → Free (the_graph g.now) (the_partial self.now) t → m < (the_graph g.now).machines
+            → IsSome result }
         ensures reachable { Reachable (the_graph g.now) (the_partial self.now)
             → IfSome result (λ c. Reachable (the_graph g.now) (the_partial c)) }
     {

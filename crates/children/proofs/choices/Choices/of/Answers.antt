@@ -7,8 +7,6 @@ use Rattle.model.specs.Children.{Tried, ChoiceFirst, passing, tried, choices}
 use Rattle.model.proofs.Choosing.{tries, choices-are}
 use Rattle.model.proofs.Ordering.{choices-ordered}
 use Rattle.model.proofs.Passing.{made-with, passing-without, length-made}
-use Rattle.model.proofs.Rules.{reachable-obeys}
-use Rattle.model.proofs.Starts.{lawful-dag}
 use Rattle.loader.specs.Meaning.{the_graph}
 use Rattle.loader.proofs.Laws.{the_lawful}
 use Rattle.partial.specs.Meaning.{the_partial}
@@ -47,7 +45,7 @@ returns c =
     let e : pairs_of c.loop-t.list ≡ choices g s = c.loop-t.invariant ∙ ap (λ (n : ℕ). flat_map (tries g s) (passing n (is_free g s))) t in
     record {
       is = e;
-      which = λ t m R. subst (λ cs. Contains cs (t, m) ↔ (Free g s t × Tried g s m)) (sym e) (choices-are g s t m (reachable-obeys g (lawful-dag (the_lawful c.args.g.now)) R).on);
+      which = λ t m on. subst (λ cs. Contains cs (t, m) ↔ (Free g s t × Tried g s m)) (sym e) (choices-are g s t m on);
       order = subst (AllPairs (ChoiceFirst g s)) (sym e) (choices-ordered g s);
       appendable = λ t m O x. choice_appendable g s (the_lawful c.args.g.now) O t m (subst (λ cs. Contains cs (t, m)) e x);
     }
