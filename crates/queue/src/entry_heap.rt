@@ -20,6 +20,7 @@ impl EntryHeap<'_> {
     pub fn start(slots: &mut [Entry]) -> EntryHeap<'_>
         ensures bag { bag_of entry_before result.heap ≡ [] }
         ensures slots { slots_of result.heap ≡ slots.old }
+        ensures lender { result.heap.slots.ghost_name ≡ slots.entry.ghost_name }
     {
         let heap = Heap::start(slots);
         EntryHeap { heap }

@@ -21,6 +21,7 @@ impl<T: TotalOrder> Heap<'_, T> {
     pub(crate) fn start(slots: &mut [T]) -> Heap<'_, T>
         ensures slots { slots_of result ≡ slots.old }
         ensures empty { result.count ≡ 0 }
+        ensures lender { result.slots.ghost_name ≡ slots.entry.ghost_name }
         ensures heaped { Heaped T.before result }
     {
         Heap { slots, count: 0 }

@@ -24,6 +24,7 @@ impl ReadyHeap<'_> {
     pub fn start(slots: &mut [ReadyTask]) -> ReadyHeap<'_>
         ensures bag { ready_bag result ≡ [] }
         ensures slots { slots_of result.heap ≡ slots.old }
+        ensures lender { result.heap.slots.ghost_name ≡ slots.entry.ghost_name }
     {
         let heap = Heap::start(slots);
         ReadyHeap { heap }

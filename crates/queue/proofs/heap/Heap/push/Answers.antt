@@ -1,4 +1,4 @@
-use Rattle.std.proofs.Common.{arith}
+use Rattle.std.proofs.Common.{refl, arith}
 use Rattle.queue.proofs.Heaping.{pushed, behind-pushed}
 use Rattle.queue.proofs.heap.Heap.push.Goals as goal
 
@@ -9,4 +9,8 @@ returns-clause-bag g c =
     pushed g.T.TotalOrder.before o h.slots.now c.sift_up.new.s h.count c.args.e (omega (arith, h.within)) c.sift_up.ensures.slots
 
 pub returns-clause-kept : goal.returns-clause-kept
-returns-clause-kept g c = let h = c.args.self.now in (behind-pushed h.slots.now c.sift_up.new.s h.count c.args.e c.sift_up.ensures.slots, λ d lt. absurd (omega (arith, lt)))
+returns-clause-kept g c = let h = c.args.self.now in record {
+  behind = behind-pushed h.slots.now c.sift_up.new.s h.count c.args.e c.sift_up.ensures.slots;
+  given_up = λ d lt. absurd (omega (arith, lt));
+  lender = refl;
+}
