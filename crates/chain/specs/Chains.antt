@@ -32,7 +32,10 @@ pub record Placed (l : Links) (e : Entry) (p : Place) : Type 0 where
   pub passed : (i : ℕ) → i < steps → entry_before (entry_at (cells_of l) (step_of l i)) e ≡ true
   pub stopped : steps < l.count → entry_before (entry_at (cells_of l) p.next) e ≡ false
 
--- the arrangement after a call: wherever the chains lead, every cell holds the entry that it held, but the first free one where an entry was put
-abbrev pub CellsKept : Links → Links → Type 0
-CellsKept a b =
-    (k : ℕ) → (k ≡ a.free → b.count ≤ a.count) → entry_at (cells_of b) k ≡ entry_at (cells_of a) k
+-- the arrangement after a call, wherever the chains lead
+pub record CellsKept (a b : Links) : Type 0 where
+  -- every cell holds the entry that it held, but for the first free one where an entry was put
+  pub entries : (k : ℕ) → (k ≡ a.free → b.count ≤ a.count)
+      → entry_at (cells_of b) k ≡ entry_at (cells_of a) k
+  -- they are the cells of the same lender
+  pub lender : b.cells.ghost_name ≡ a.cells.ghost_name

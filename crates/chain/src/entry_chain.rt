@@ -24,6 +24,7 @@ impl EntryChain<'_> {
         ensures bag { chain_of result.links ≡ [] }
         ensures room { length (cells_of result.links) ≡ length cells.old }
         ensures cells { StrungUp cells.old (cells_of result.links) }
+        ensures lender { result.links.cells.ghost_name ≡ cells.entry.ghost_name }
     {
         let links = Links::start(cells);
         EntryChain { links }

@@ -43,6 +43,7 @@ impl Links<'_> {
         ensures chain { chain_of result ≡ [] }
         ensures room { length (cells_of result) ≡ length cells.old }
         ensures cells { StrungUp cells.old (cells_of result) }
+        ensures lender { result.cells.ghost_name ≡ cells.entry.ghost_name }
     {
         string_up(cells);
         Links {
