@@ -21,10 +21,10 @@ use Rattle.astar.specs.Advance.{is_own, is_met, is_sound, is_full, early_word, e
 use Rattle.astar.specs.Invariant.{partial_at}
 use Rattle.astar.specs.Endings.{Foreign, NoneBelow, Spent, Sound, Unsound, Cramped, Applies, outcome_of, after}
 use Rattle.astar.specs.Endings.Applies.{foreign, none_below, spent, unsound, cramped}
-use Rattle.astar.specs.Laws.{AdvanceEnds}
+use Rattle.astar.specs.Laws.{AdvanceEnds, AdvanceMeets}
 use Rattle.astar.proofs.Visits.{visit-cases, expansion-visits}
 use Rattle.astar.proofs.Ripe.{sound-passes, passes-sound}
-use Rattle.astar.proofs.Floor.{least-listed}
+use Rattle.astar.proofs.Floor.{least-listed, floor-met}
 
 -- A call of advance ends by the first of five tests that applies, at the first state to which one does.
 
@@ -186,3 +186,16 @@ module _ (g : Graph) (b : Bound) (z : Sizes) (limit : ℕ) (L : Lawful g) where
 
 pub advance-ends : AdvanceEnds
 advance-ends g b z limit k w L o = let l = leads g b z limit L k w o in (l.0, (l.1, l.2, l.3))
+
+-- Met is the outcome of the second test alone
+met-by : (g : Graph) (z : Sizes) (limit allowed : ℕ) (v : SearchState) (n : ℕ) → Applies g z limit allowed v n → outcome_of n ≡ Met → NoneBelow v
+met-by g z limit allowed v n (foreign f) e = cc
+met-by g z limit allowed v n (none_below f) e = f
+met-by g z limit allowed v n (spent f) e = cc
+met-by g z limit allowed v n (unsound f) e = cc
+met-by g z limit allowed v n (cramped f) e = cc
+
+pub advance-meets : AdvanceMeets
+advance-meets g b z limit k w L o e =
+    let r = (advance-ends g b z limit k w L o).0 in
+    floor-met (advanced g b z limit k w).0 (met-by g z limit _ _ r.0 r.1 (sym r.3 ∙ e))

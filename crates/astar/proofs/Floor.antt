@@ -1,4 +1,5 @@
-use Rattle.std.proofs.Common.{◌≡◌, ℕ, zero, suc, ◌+◌, ◌≤◌, Bool, true, false, List, [], ◌∷◌, sym, refl, subst, inl, inr, arith}
+use Rattle.std.proofs.Common.{◌≡◌, ℕ, zero, suc, ◌+◌, ◌≤◌, ◌⊎◌, Bool, true, false, List, [], ◌∷◌, sym, refl, subst, inl, inr, arith}
+use native.Mathlib.Decide.{dec_lt}
 use Rattle.std.specs.List.{Contains}
 use Rattle.std.proofs.lemmas.List.Elements.{All-from_recursion, All-contains}
 use Rattle.model.specs.Graph.{Graph, Lawful}
@@ -13,7 +14,7 @@ use Rattle.model.proofs.Counting.{missing, missing-alike, missing-put}
 use Rattle.model.proofs.Rules.{reachable-obeys}
 use Rattle.model.proofs.Starts.{lawful-dag, reachable-feasible}
 use Rattle.model.proofs.Completions.{empty-completed}
-use Rattle.model.proofs.Membership.{map-contains}
+use Rattle.model.proofs.Membership.{map-contains, contains-first}
 use Rattle.model.proofs.Choosing.{choices-are}
 use Rattle.model.proofs.Covering.{children-cover}
 use Rattle.bag.specs.Bag.{InOrder}
@@ -24,7 +25,8 @@ use Rattle.queue.specs.Entries.{entry_before, EntryLeads}
 use Rattle.queue.specs.EntryBags.{entries-ordered}
 use Rattle.astar.specs.States.{SearchState, best_length, best_schedule, entry}
 use Rattle.astar.specs.Invariant.{InUse, partial_at, Visited, Grown, All}
-use Rattle.astar.specs.Laws.{least_bound, floor, FloorHolds, BestIsFeasible}
+use Rattle.astar.specs.Endings.{NoneBelow}
+use Rattle.astar.specs.Laws.{least_bound, floor, FloorHolds, BestIsFeasible, FloorIsLeast}
 use Rattle.astar.proofs.Duplicates.{duplicate-same, duplicate-completion}
 
 -- no completion of a complete partial schedule is shorter than it
@@ -84,6 +86,29 @@ least-listed y (x ∷ es) h e c = go (not-below e.bound x.node x.bound e.node fi
     go : EntryLeads x e → least_bound y (x ∷ es) ≤ e.bound
     go (inl l) = omega arith
     go (inr l) = omega (arith, l.0)
+
+-- and it is one of these
+least-is : (y : ℕ) (es : List Entry) → (least_bound y es ≡ y) ⊎ ((e : Entry) × Contains es e × (least_bound y es ≡ e.bound))
+least-is y [] = inl refl
+least-is y (e ∷ es) = elim (dec_lt e.bound y) [
+  | yes l ↦ inr (e, contains-first e es, omega (arith, l))
+  | no l ↦ inl (omega (arith, l))
+]
+
+pub floor-is-least : FloorIsLeast
+floor-is-least w o = record {
+  best = least-best (best_length w) w.bag;
+  listed = least-listed (best_length w) w.bag o;
+  one = least-is (best_length w) w.bag;
+}
+
+-- where no bound is below the best length, it is the best length
+pub floor-met : (w : SearchState) → NoneBelow w → floor w ≡ best_length w
+floor-met w none = go w.bag none
+  where
+    go : (es : List Entry) → ((e : Entry) → Contains es e → best_length w ≤ e.bound) → least_bound (best_length w) es ≡ best_length w
+    go [] n = refl
+    go (e ∷ es) n = omega (arith, n e (contains-first e es))
 
 pub floor-holds : FloorHolds
 floor-holds g w L I =

@@ -11,7 +11,6 @@ pub mod Starting
 pub mod Ripe
 pub mod Advancing
 pub mod Ending
-pub mod Fating
+pub mod Fates
 pub mod Apart
-pub mod Told
-pub mod Coursing
+pub mod Courses

@@ -12,7 +12,7 @@ use Rattle.model.proofs.Membership.{contains-first}
 use Rattle.astar.specs.States.{SearchState, best_node, waiting_node, entry}
 use Rattle.astar.specs.Opening.{opened}
 use Rattle.astar.specs.Invariant.{InUse, Grown, Listed, Apart, All}
-use Rattle.astar.specs.Laws.{OpeningStands}
+use Rattle.astar.specs.Laws.{OpeningStands, OpeningFills}
 use Rattle.astar.proofs.Growth.{FreshNode, BestNode}
 
 -- A search that is opened stands.
@@ -89,3 +89,21 @@ opening-stands g b s ns limit L lower R full two fits = record {
   where
     size : length (opened g b s ns).nodes ≡ length ns
     size = opened-size g b s ns L lower R full two
+
+-- what opening fills the table and the list with
+pub opening-fills : OpeningFills
+opening-fills g b s ns two =
+    let first : List SearchNode = set ns 0 (best_node g s) in
+    let root : SearchNode = waiting_node nothing (b g nothing) in
+    let away : 0 ≢ 1 = omega arith in
+    record {
+      best = get_or-set_other first 1 0 root no_node away ∙ get_or-set_same ns 0 (best_node g s) no_node (omega (arith, two));
+      root = get_or-set_same first 1 root no_node (omega (arith, two, length-set ns 0 (best_node g s)));
+      others = λ j l.
+          let a : j ≢ 1 = omega (arith, l) in
+          let z : j ≢ 0 = omega (arith, l) in
+          get_or-set_other first 1 j root no_node a ∙ get_or-set_other ns 0 j (best_node g s) no_node z;
+      size = length-set first 1 root ∙ length-set ns 0 (best_node g s);
+      list = refl;
+      tally = refl;
+    }

@@ -14,7 +14,7 @@ use Rattle.astar.specs.States.{SearchState, used, best_length, best_schedule}
 use Rattle.astar.specs.Expansion.{expanded}
 use Rattle.astar.specs.Opening.{sizes_of, opened}
 use Rattle.astar.specs.declared.sizes.Sizes.{Sizes}
-use Rattle.astar.specs.declared.outcome.Outcome.TheVariants.{Strange}
+use Rattle.astar.specs.declared.outcome.Outcome.TheVariants.{Strange, Met}
 use Rattle.astar.specs.Advance.{is_own, next_node, advanced}
 use Rattle.astar.specs.Endings.{EndsBy, GoesOnTo}
 use Rattle.astar.specs.Invariant.{Invariant, partial_at}
@@ -78,18 +78,24 @@ OpeningStands = (g : Graph) (b : Bound) (s : Partial) (ns : List SearchNode) (li
     → Standing g (sizes_of g ns) limit (opened g b s ns)
 
 -- y is above neither the best length nor an entry's bound, and it is one of these
-abbrev pub LeastOf : SearchState → ℕ → Type 0
-LeastOf w y = (y ≤ best_length w)
-    × ((e : Entry) → Contains w.bag e → y ≤ e.bound)
-    × ((y ≡ best_length w) ⊎ ((e : Entry) × Contains w.bag e × (y ≡ e.bound)))
+pub record LeastOf (w : SearchState) (y : ℕ) : Type 0 where
+  pub best : y ≤ best_length w
+  pub listed : (e : Entry) → Contains w.bag e → y ≤ e.bound
+  pub one : (y ≡ best_length w) ⊎ ((e : Entry) × Contains w.bag e × (y ≡ e.bound))
 
 -- so is the floor
 abbrev pub FloorIsLeast : Type 0
 FloorIsLeast = (w : SearchState) → InOrder entry_before w.bag → LeastOf w (floor w)
 
--- opening with a schedule: it fills node 0 with its makespan and does not wait; the empty partial schedule waits in node
--- 1 with the rule's number for it; each other node is as it was; the one entry is that of node 1; and nothing is counted
--- but the node that waits
+-- a call of advance that answers Met leaves the best length as the floor
+abbrev pub AdvanceMeets : Type 0
+AdvanceMeets = (g : Graph) (b : Bound) (z : Sizes) (limit k : ℕ) (w : SearchState) → Lawful g
+    → InOrder entry_before w.bag → (advanced g b z limit k w).1 ≡ Met
+    → floor (advanced g b z limit k w).0 ≡ best_length (advanced g b z limit k w).0
+
+-- opening with a schedule: it fills node 0 with its makespan, and node 0 does not wait; the empty partial schedule waits
+-- in node 1 with the rule's number for it; each other node is as it was; the one entry is that of node 1; and nothing is
+-- counted but the node that waits
 pub record Opens (g : Graph) (b : Bound) (s : Partial) (ns : List SearchNode) (w : SearchState) : Type 0 where
   pub best : node_at w.nodes 0 ≡ record { partial = s; bound = makespan g (whole s); waiting = false }
   pub root : node_at w.nodes 1 ≡ record { partial = nothing; bound = b g nothing; waiting = true }

@@ -1,4 +1,4 @@
-ghost use Rattle.astar.specs.Laws.{FloorHolds, BestIsFeasible, ExpansionKeeps, AdvanceKeeps, AdvanceEnds, OpeningStands, FloorIsLeast, OpeningFills};
+ghost use Rattle.astar.specs.Laws.{FloorHolds, BestIsFeasible, ExpansionKeeps, AdvanceKeeps, AdvanceEnds, OpeningStands, FloorIsLeast, AdvanceMeets, OpeningFills};
 ghost use Rattle.astar.specs.Fates.{ChildFates, ExpansionVisits};
 ghost use Rattle.astar.specs.Course.{AdvanceVisits};
 
@@ -34,14 +34,19 @@ pub fn advance_ends()
     ensures { AdvanceEnds }
 {}
 
-// What becomes of a child: it is complete, cut, a duplicate, or kept.
+// What becomes of a child: it is complete, pruned, a duplicate or stored, and what each leaves.
 pub fn child_fates()
     ensures { ChildFates }
 {}
 
-// Expanding a node takes it, and then its children come in the order of the choices, each to its end, which is counted.
+// Expanding a node takes it, and then its children come in the order of the choices, each to its fate, which is counted.
 pub fn expansion_visits()
     ensures { ExpansionVisits }
+{}
+
+// A call of advance goes from expansion to expansion, each of the node whose entry comes first, child by child.
+pub fn advance_visits()
+    ensures { AdvanceVisits }
 {}
 
 // The floor is the best length or some entry's bound, and above none of these.
@@ -49,12 +54,12 @@ pub fn floor_is_least()
     ensures { FloorIsLeast }
 {}
 
+// A call of advance that answers Met leaves the best length as the floor.
+pub fn advance_meets()
+    ensures { AdvanceMeets }
+{}
+
 // What opening fills the table and the list with.
 pub fn opening_fills()
     ensures { OpeningFills }
-{}
-
-// A call of advance goes from expansion to expansion, each of the node whose entry comes first, child by child.
-pub fn advance_visits()
-    ensures { AdvanceVisits }
 {}

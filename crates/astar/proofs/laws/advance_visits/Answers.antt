@@ -1,4 +1,4 @@
-use Rattle.astar.proofs.Coursing.{advance-visits}
+use Rattle.astar.proofs.Courses.{advance-visits}
 use Rattle.astar.proofs.laws.advance_visits.Goals as goal
 
 pub returns : goal.returns

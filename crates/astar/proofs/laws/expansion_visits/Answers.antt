@@ -1,4 +1,4 @@
-use Rattle.astar.proofs.Fating.{expansion-visits-all}
+use Rattle.astar.proofs.Fates.{expansion-visits-all}
 use Rattle.astar.proofs.laws.expansion_visits.Goals as goal
 
 pub returns : goal.returns

@@ -1,4 +1,4 @@
-use Rattle.astar.proofs.Told.{floor-is-least}
+use Rattle.astar.proofs.Floor.{floor-is-least}
 use Rattle.astar.proofs.laws.floor_is_least.Goals as goal
 
 pub returns : goal.returns

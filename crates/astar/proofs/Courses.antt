@@ -5,6 +5,7 @@ use Rattle.std.specs.List.{Contains}
 use Rattle.model.specs.Graph.{Graph, Lawful}
 use Rattle.model.specs.Children.{children}
 use Rattle.model.specs.Bounds.{Bound}
+use Rattle.model.proofs.Range.{cond-le}
 use Rattle.bag.specs.Bag.{first}
 use Rattle.queue.specs.declared.entry.Entry.{Entry}
 use Rattle.astar.specs.declared.sizes.Sizes.{Sizes}
@@ -14,37 +15,19 @@ use Rattle.astar.specs.Advance.{next_node, is_sound}
 use Rattle.astar.specs.Invariant.{partial_at}
 use Rattle.astar.specs.Endings.{Sound, Applies, after}
 use Rattle.astar.specs.Endings.Applies.{foreign, none_below, spent, unsound, cramped}
-use Rattle.astar.specs.Fates.{End, one, count, ByChildren}
-use Rattle.astar.specs.Fates.End.{finished, cut, twin, kept}
+use Rattle.astar.specs.Fates.{Fate, same, count, ByChildren}
+use Rattle.astar.specs.Fates.Fate.{stored}
 use Rattle.astar.specs.Course.{Course, AdvanceVisits}
 use Rattle.astar.specs.Course.Course.{here, on}
 use Rattle.astar.proofs.Ripe.{sound-passes, passes-sound}
 use Rattle.astar.proofs.Ending.{advance-ends}
-use Rattle.astar.proofs.Fating.{expansion-visits-all}
+use Rattle.astar.proofs.Fates.{expansion-visits-all}
 
 -- A call of advance goes from expansion to expansion.
 
-one-le : (e f : End) → one e f ≤ 1
-one-le finished finished = omega arith
-one-le finished cut = omega arith
-one-le finished twin = omega arith
-one-le finished kept = omega arith
-one-le cut finished = omega arith
-one-le cut cut = omega arith
-one-le cut twin = omega arith
-one-le cut kept = omega arith
-one-le twin finished = omega arith
-one-le twin cut = omega arith
-one-le twin twin = omega arith
-one-le twin kept = omega arith
-one-le kept finished = omega arith
-one-le kept cut = omega arith
-one-le kept twin = omega arith
-one-le kept kept = omega arith
-
-count-le : (e : End) (es : List End) → count e es ≤ length es
+count-le : (e : Fate) (es : List Fate) → count e es ≤ length es
 count-le e [] = omega arith
-count-le e (f ∷ es) = omega (arith, one-le e f, count-le e es)
+count-le e (f ∷ es) = omega (arith, cond-le (same e f) 1 1 (λ q. omega arith), count-le e es)
 
 module _ (g : Graph) (b : Bound) (z : Sizes) (limit allowed : ℕ) (L : Lawful g) where
   -- where no test applies, the node whose entry comes first is expanded, with room for its children
@@ -65,7 +48,7 @@ module _ (g : Graph) (b : Bound) (z : Sizes) (limit allowed : ℕ) (L : Lawful g
           let fits = roomy f in
           let x : ByChildren g b w e.node (expanded g b w (next_node w.bag)) =
           subst (λ j. ByChildren g b w e.node (expanded g b w j)) (sym i) (expansion-visits-all g b w e.node (omega (arith, s.right.0.1, room, size)) fits) in
-          (e, f, x, omega (arith, x.tallied.put, count-le kept x.ends, x.as_many, fits, size))
+          (e, f, x, omega (arith, x.tallied.stored, count-le stored x.fates, x.as_many, fits, size))
         where
           sound : (v : Bool) → is_sound g w e ≡ v → first w.bag ≡ Some e → Sound g w e
           sound true p f = passes-sound g L w e p
