@@ -1,4 +1,4 @@
-use Rattle.std.proofs.Common.{◌≢◌, ◌≡◌, ℕ, ◌+◌, ◌<◌, Bool, true, not, eqb, ltb, List, length, Some, None, Option, Ok, Err, Result, sym, refl, ap, subst, inl, inr, arith}
+use Rattle.std.proofs.Common.{◌≡◌, ℕ, ◌+◌, ◌<◌, Bool, true, not, eqb, ltb, List, length, Some, None, Option, Ok, Err, Result, MatchResult, sym, refl, ap, subst, inl, inr, arith}
 use native.Mathlib.Decide.{ℕ_discrete, dec_le, dec_lt}
 use Rattle.std.specs.Option.{MatchOption}
 use Rattle.std.proofs.lemmas.Bool.{eq-eqb, ne_eqb, eqb-true, eqb-false, lt-ltb, le-ltb, ltb-true, le-leb, lt-leb, and_parts, and_from, and_left, and_right, not-true, not_from_false}
@@ -12,11 +12,6 @@ use Rattle.schedule.specs.declared.fault.CheckFault.{CheckFault}
 use Rattle.schedule.specs.declared.fault.CheckFault.TheVariants as Fault
 use Rattle.schedule.specs.Rows.{schedule_of}
 use Rattle.schedule.specs.Check.{wrong, hasty, early, collide, overlaps, wrong_row, early_task, overlapping_task, verdict, judged, checked}
-use Rattle.refusal.specs.declared.refusal.Refusal.{Refusal}
-use Rattle.refusal.specs.Refusing.{Refuses}
-use Rattle.schedule.specs.Refusals.{check_refusal}
-use Rattle.schedule.specs.Refused.{CheckRefused}
-use Rattle.schedule.specs.Refused.CheckRefused.{count, row, early as hasty_one, overlap as overlapping_one}
 use Rattle.schedule.specs.Judged.{Lowest, Nowhere, OutOfRange, TooEarly, Overlapping, Judged}
 
 -- the lowest number that passes a test which decides P
@@ -134,6 +129,14 @@ module _ (g : Graph) (p : Schedule) where
       (λ t a b x. absurd (alone F t x.0 x.1))
       (λ a b c. refl)
 
+-- the verdict passes exactly the feasible schedules
+pub judged-decides : (g : Graph) → Ends g → (p : Schedule) → MatchResult (judged g p) (λ v. Feasible g p × (v ≡ makespan g p)) (λ _. Feasible g p → ⊥)
+judged-decides g E p = judged-cases g p (λ r. MatchResult r (λ v. Feasible g p × (v ≡ makespan g p)) (λ _. Feasible g p → ⊥))
+    (λ t x F. in-range g p F t x.0 x.1)
+    (λ t a x F. in-time g p F t x.1)
+    (λ t a b x F. alone g p F t x.0 x.1)
+    (λ a b c. (obeys-all g p E a b c, refl))
+
 -- the check is right about any rows
 module _ (g : Graph) (E : Ends g) (rows : List Placement) where
   right : length rows ≡ g.tasks → Judged g rows (judged g (schedule_of rows))
@@ -151,24 +154,3 @@ module _ (g : Graph) (E : Ends g) (rows : List Placement) where
     | yes e ↦ rw (eq-eqb (length rows) g.tasks e) (right e)
     | no ne ↦ rw (ne_eqb (length rows) g.tasks ne) ((λ F. ne F.0), inl (ne, refl))
   ]
-
-  -- and is refused as it says
-  none-refused : length rows ≡ g.tasks → Nowhere g.tasks (OutOfRange g (schedule_of rows)) → Nowhere g.tasks (TooEarly g (schedule_of rows)) → Nowhere g.tasks (Overlapping g (schedule_of rows))
-      → (r : Refusal) → CheckRefused g rows r → ⊥
-  none-refused e a b c r (count n) = n e
-  none-refused e a b c r (row {t} q x) = a t x.0 x.1
-  none-refused e a b c r (hasty_one {t} q n x) = b t x.0 x.1
-  none-refused e a b c r (overlapping_one {t} q n m x) = c t x.0 x.1
-
-  pub check-refuses : Refuses (CheckRefused g rows) check_refusal (checked g rows)
-  check-refuses = elim (ℕ_discrete (length rows) g.tasks) [
-    | yes e ↦ rw (eq-eqb (length rows) g.tasks e) (judged-cases g (schedule_of rows) (Refuses (CheckRefused g rows) check_refusal)
-        (λ t x. row e x)
-        (λ t a x. hasty_one e a x)
-        (λ t a b x. overlapping_one e a b x)
-        (λ a b c. none-refused e a b c))
-    | no ne ↦ rw (ne_eqb (length rows) g.tasks ne) (count ne)
-  ]
-
-  pub refused_count : (n : ℕ) → length rows ≢ g.tasks → n ≡ g.tasks → CheckRefused g rows (check_refusal (Fault.Rows n))
-  refused_count n ne e = rw e (count ne)

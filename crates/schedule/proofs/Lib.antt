@@ -1,4 +1,5 @@
 pub mod Judging
+pub mod Breaking
 pub mod Choosing
 pub mod Listing
 pub mod Passing

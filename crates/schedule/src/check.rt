@@ -1,12 +1,13 @@
-ghost use Rattle.std.specs.Prelude.{◌≡◌};
+ghost use Rattle.std.specs.Prelude.{◌≡◌, MatchResult};
 ghost use Rattle.loader.specs.Meaning.{the_graph};
+ghost use Rattle.model.specs.Schedule.{Feasible, makespan};
 ghost use Rattle.model.specs.Partial.{whole};
 ghost use Rattle.partial.specs.Meaning.{the_partial};
 ghost use Rattle.schedule.specs.Check.{checked, judged};
 ghost use Rattle.refusal.specs.Refusing.{Refuses};
 ghost use Rattle.schedule.specs.Judged.{Judged};
 ghost use Rattle.schedule.specs.Refusals.{check_refusal};
-ghost use Rattle.schedule.specs.Refused.{CheckRefused};
+ghost use Rattle.schedule.specs.Refused.{Broken, CheckRefused};
 
 use crate::checked::rows;
 use crate::fault::CheckFault;
@@ -30,7 +31,6 @@ struct TaskRows<'a> {
 
 impl TaskRows<'_> {
     ghost use Rattle.std.specs.Prelude.{◌+◌, slice_index_or};
-    ghost use Rattle.model.specs.Schedule.{makespan};
     ghost use Rattle.schedule.specs.Rows.{blank};
     ghost use Rattle.schedule.specs.TaskRows.{rows_graph, rows_schedule};
     ghost use Rattle.schedule.specs.Check.{wrong, transfer_hasty, early, collide, overlaps};
@@ -159,7 +159,12 @@ pub fn check(g: &TaskGraph, rows: &[Placement]) -> Result<u64, CheckFault>
 
 // The same of a partial schedule read as a schedule: machine and start of a task that it does not place are 0.
 pub fn check_partial(g: &TaskGraph, q: &PartialSchedule) -> Result<u64, CheckFault>
-    ensures { result ≡ judged (the_graph g.now) (whole (the_partial q.now)) }
+    ensures is { result ≡ judged (the_graph g.now) (whole (the_partial q.now)) }
+    ensures exactly { let p = whole (the_partial q.now) in
+        MatchResult result
+        (λ v. Feasible (the_graph g.now) p × (v ≡ makespan (the_graph g.now) p))
+        (λ _. Feasible (the_graph g.now) p → ⊥) }
+    ensures refused { Refuses (Broken (the_graph g.now) (whole (the_partial q.now))) check_refusal result }
 {
     let rows = rows(q);
     TaskRows {
