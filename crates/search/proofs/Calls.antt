@@ -13,7 +13,7 @@ use Rattle.queue.specs.Entries.{entry_before}
 use Rattle.schedule.specs.ListSchedule.{listed}
 use Rattle.astar.specs.declared.sizes.Sizes.{Sizes}
 use Rattle.astar.specs.declared.outcome.Outcome.{Outcome}
-use Rattle.astar.specs.declared.outcome.Outcome.TheVariants.{Strange}
+use Rattle.astar.specs.declared.outcome.Outcome.TheVariants.{Strange, Met}
 use Rattle.astar.specs.States.{SearchState, used}
 use Rattle.astar.specs.Opening as opening
 use Rattle.astar.specs.Advance as advance
@@ -21,8 +21,9 @@ use Rattle.astar.specs.Endings.{EndsBy, GoesOnTo}
 use Rattle.astar.specs.Course.{Course}
 use Rattle.astar.proofs.Ending.{advance-ends}
 use Rattle.astar.specs.Laws as laws
-use Rattle.astar.proofs.Told.{floor-is-least}
-use Rattle.astar.proofs.Coursing.{advance-visits}
+use Rattle.astar.proofs.Floor.{floor-is-least}
+use Rattle.astar.proofs.Starting.{opening-fills}
+use Rattle.astar.proofs.Courses.{advance-visits}
 use Rattle.search.specs.declared.fault.SearchFault.{SearchFault}
 use Rattle.search.specs.declared.fault.SearchFault.TheVariants.{Table, List as NoRoom, Unsettled}
 use Rattle.search.specs.Calls.{open_fault, floor_fault, settle_fault, best_fault, answer_or}
@@ -31,7 +32,7 @@ use Rattle.search.specs.Runs.Run.{opened, advanced, settled}
 use Rattle.search.specs.Runs.Since.{later as longer}
 use Rattle.search.specs.Promise.{floor, best, IsShortest, Promise, Promised, InRun, KeptInRuns}
 use Rattle.search.specs.Promise as promise
-use Rattle.search.proofs.Promises.{run-owned, kept-in-runs}
+use Rattle.search.proofs.Promises.{accepted, run-owned, kept-in-runs}
 
 -- What each call answers and leaves in a run.
 
@@ -60,6 +61,11 @@ pub open-run : (g : Graph) (b : Bound) (ns : List SearchNode) (bag : List Entry)
     → Run g b false (record { sizes = z; state = w; limit = end })
 open-run g b ns bag limit end z w e p q l = rw (p, q, l) (opened ns limit (emptied ns bag limit e))
 
+-- what an accepted open fills the table and the list with
+pub open-fills : (g : Graph) (b : Bound) (ns : List SearchNode) (bag : List Entry) (limit : ℕ) (w : SearchState) → open_fault ns bag limit ≡ None
+    → w ≡ opening.opened g b (listed g g.tasks) ns → laws.Opens g b (listed g g.tasks) ns w
+open-fills g b ns bag limit w e q = subst (laws.Opens g b (listed g g.tasks) ns) (sym q) (opening-fills g b (listed g g.tasks) ns (accepted ns limit (emptied ns bag limit e)).0)
+
 -- where a call of advance leads
 module _ (g : Graph) (b : Bound) (k : ℕ) (m : Moment) (z : Sizes) (w : SearchState) (limit : ℕ) (o : Outcome)
     (is : (w, o) ≡ advance.advanced g b m.sizes m.limit k m.state) (p : z ≡ m.sizes) (l : limit ≡ m.limit) where
@@ -82,6 +88,9 @@ module _ (g : Graph) (b : Bound) (k : ℕ) (m : Moment) (z : Sizes) (w : SearchS
 
   pub advance-never : Promise g b false m → o ≢ Strange
   advance-never P e = P.never k (ap (λ (x : SearchState × Outcome). x.1) (sym is) ∙ e)
+
+  pub advance-met : Promise g b false m → o ≡ Met → Settles g (record { sizes = z; state = w; limit = limit })
+  advance-met P e = subst (Settles g) (sym advance-leads) (P.meets k (ap (λ (x : SearchState × Outcome). x.1) (sym is) ∙ e))
 
 module _ (g : TaskGraph) (done : Bool) (m : Moment) (r : InRun (the_graph g) done m) where
   G : Graph

@@ -5,6 +5,7 @@ pub mod Progress
 pub mod Turns
 pub mod Rows
 pub mod Calls
+pub mod Taking
 pub mod Keeping
 pub mod Refusing
 pub mod Written

@@ -1,4 +1,5 @@
 use Rattle.std.proofs.Common.{◌≡◌, ℕ, ◌≤◌, Bool, true, false, cond, ◌||◌, ltb, ◌↔◌, List, [], length, Some, None, sym, refl, arith}
+use native.Mathlib.Decide.{dec_lt}
 use Rattle.std.proofs.lemmas.Bool.{eq-eqb, le-ltb, ltb-false, and_from}
 use Rattle.model.specs.Graph.{Graph, Lawful}
 use Rattle.model.specs.Bounds.{Bound, IsLowerBound}
@@ -12,10 +13,11 @@ use Rattle.astar.specs.Advance.{is_own}
 use Rattle.astar.specs.Laws.{Standing}
 use Rattle.astar.proofs.Starting.{opening-stands}
 use Rattle.astar.proofs.Advancing.{advance-keeps}
+use Rattle.astar.proofs.Ending.{advance-meets}
 use Rattle.astar.proofs.Floor.{least-best, floor-holds, best-is-feasible}
 use Rattle.search.specs.declared.fault.SearchFault.TheVariants.{Table, List as NoRoom, Unsettled}
 use Rattle.search.specs.Calls.{open_fault, is_best}
-use Rattle.search.specs.Runs.{Moment, at_open, Settles, Run, Since}
+use Rattle.search.specs.Runs.{Moment, at_open, onward as after_advance, Settles, Run, Since}
 use Rattle.search.specs.Runs.Run.{opened, advanced, asked, settled}
 use Rattle.search.specs.Runs.Since.{same, later}
 use Rattle.search.specs.Promise.{floor, length as best_length, best, Promise, Onward, KeptInRuns}
@@ -26,19 +28,19 @@ use Rattle.search.specs.Promise.{floor, length as best_length, best, Promise, On
 abbrev pub Stands : Graph → Moment → Type 0
 Stands g m = Standing g m.sizes m.limit m.state
 
+-- the floor is at most the best length, so settle is accepted exactly when they are equal
+pub settles-of : (g : Graph) (m : Moment) → Stands g m → Settles g m ↔ (floor m ≡ best_length m)
+settles-of g m S = rw S.own (low (ltb (floor m) (best_length m)) refl, high)
+  where
+    low : (s : Bool) → ltb (floor m) (best_length m) ≡ s → cond s (Some Unsettled) None ≡ None → floor m ≡ best_length m
+    low true q e = cc
+    low false q e = omega (arith, ltb-false _ _ q, least-best (best_length m) m.state.bag)
+
+    high : floor m ≡ best_length m → cond (ltb (floor m) (best_length m)) (Some Unsettled) None ≡ None
+    high q = rw (le-ltb (floor m) (best_length m) (omega (arith, q))) refl
+
 -- where the search stands, each answer is the one promised
 module _ (g : Graph) (m : Moment) where
-  -- the floor is at most the best length, so settle is accepted exactly when they are equal
-  pub settles-of : Stands g m → Settles g m ↔ (floor m ≡ best_length m)
-  settles-of S = rw S.own (low (ltb (floor m) (best_length m)) refl, high)
-    where
-      low : (s : Bool) → ltb (floor m) (best_length m) ≡ s → cond s (Some Unsettled) None ≡ None → floor m ≡ best_length m
-      low true q e = cc
-      low false q e = omega (arith, ltb-false _ _ q, least-best (best_length m) m.state.bag)
-
-      high : floor m ≡ best_length m → cond (ltb (floor m) (best_length m)) (Some Unsettled) None ≡ None
-      high q = rw (le-ltb (floor m) (best_length m) (omega (arith, q))) refl
-
   module _ (L : Lawful g) (S : Stands g m) where
     -- node 0 holds a schedule that the check passes with its makespan
     best-right : is_best g (node_at m.state.nodes 0) ≡ true
@@ -55,9 +57,15 @@ module _ (g : Graph) (m : Moment) where
           bounded = floor-holds g m.state L S.invariant;
           feasible = B.0;
           as_long = sym B.1;
-          settles = settles-of S;
-          shortest = λ e. (B.0, λ q F. omega (arith, B.1, (settles-of S).0 e, floor-holds g m.state L S.invariant q F));
+          settles = settles-of g m S;
+          shortest = λ e. (B.0, λ q F. omega (arith, B.1, (settles-of g m S).0 e, floor-holds g m.state L S.invariant q F));
           settled = over;
+          meets = λ k e. let S' = (advance-keeps g b m.sizes m.limit k m.state L lower S).0 in
+              (settles-of g (after_advance g b k m) S').1 (advance-meets g b m.sizes m.limit k m.state L S.invariant.listed.order e);
+          unsettled = λ n. elim (dec_lt (floor m) (best_length m)) [
+            | yes l ↦ l
+            | no l ↦ absurd (n ((settles-of g m S).1 (omega (arith, l, least-best (best_length m) m.state.bag))))
+          ];
           apart = S.invariant.apart;
           answers = rw S.own refl;
           writes = rw (S.own, best-right, le-ltb g.tasks g.tasks (omega arith)) refl;
@@ -65,7 +73,7 @@ module _ (g : Graph) (m : Moment) where
         }
 
 -- open accepts a table of at least two nodes, with a list that can hold an entry for each
-accepted : (ns : List SearchNode) (limit : ℕ) → open_fault ns [] limit ≡ None → (2 ≤ length ns) × (length ns ≤ limit)
+pub accepted : (ns : List SearchNode) (limit : ℕ) → open_fault ns [] limit ≡ None → (2 ≤ length ns) × (length ns ≤ limit)
 accepted ns limit e = go (ltb (length ns) 2) (ltb 1048576 (length ns)) (ltb limit (length ns)) refl refl e
   where
     go : (a b c : Bool) → ltb (length ns) 2 ≡ a → ltb limit (length ns) ≡ c → cond (a || b) (Some Table) (cond c (Some NoRoom) None) ≡ None → (2 ≤ length ns) × (length ns ≤ limit)

@@ -1,14 +1,14 @@
-use Rattle.std.specs.Prelude.{◌≡◌, ℕ, ◌≤◌, ◌≢◌, Bool, true, None, ◌↔◌}
+use Rattle.std.specs.Prelude.{◌≡◌, ℕ, ◌<◌, ◌≤◌, ◌≢◌, Bool, true, None, ◌↔◌}
 use Rattle.model.specs.Graph.{Graph}
 use Rattle.model.specs.Schedule.{Schedule, Feasible, makespan}
 use Rattle.model.specs.Bounds.{Bound, IsLowerBound}
-use Rattle.astar.specs.declared.outcome.Outcome.TheVariants.{Strange}
+use Rattle.astar.specs.declared.outcome.Outcome.TheVariants.{Strange, Met}
 use Rattle.astar.specs.States as states
 use Rattle.astar.specs.Invariant.{Apart}
 use Rattle.astar.specs.Laws as laws
 use Rattle.astar.specs.Advance.{advanced}
 use Rattle.search.specs.Calls.{best_fault, floor_fault}
-use Rattle.search.specs.Runs.{Moment, Run, Since, Settles}
+use Rattle.search.specs.Runs.{Moment, onward, Run, Since, Settles}
 
 -- what floor answers
 abbrev pub floor : Moment → ℕ
@@ -36,11 +36,14 @@ pub record Promise (g : Graph) (b : Bound) (done : Bool) (m : Moment) : Type 0 w
   pub settles : Settles g m ↔ (floor m ≡ length m)
   pub shortest : Settles g m → IsShortest g (best m)
   pub settled : done ≡ true → Settles g m
+  -- after a call of advance that answers Met settle is accepted, and where it is refused the floor is below the best length
+  pub meets : (k : ℕ) → (advanced g b m.sizes m.limit k m.state).1 ≡ Met → Settles g (onward g b k m)
+  pub unsettled : (Settles g m → ⊥) → floor m < length m
+  -- no two used nodes above 0 are duplicates, and node 0 does not wait
+  pub apart : Apart m.state
   -- the memory is never foreign, and advance never answers Strange
   pub answers : floor_fault g m.sizes m.state m.limit ≡ None
   pub writes : best_fault g m.sizes m.state m.limit g.tasks ≡ None
-  -- no two used nodes above 0 are duplicates, and node 0 does not wait
-  pub apart : Apart m.state
   pub never : (k : ℕ) → (advanced g b m.sizes m.limit k m.state).1 ≢ Strange
 
 -- since an earlier point of a run the floor has not fallen and the best length has not risen

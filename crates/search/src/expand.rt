@@ -8,6 +8,7 @@ ghost use Rattle.children.specs.Choices.{pair_of, pairs_of};
 ghost use Rattle.children.specs.Meaning.{the_choices};
 ghost use Rattle.nodes.specs.View.{the_node};
 ghost use Rattle.nodes.specs.Meaning.{the_nodes};
+ghost use Rattle.astar.specs.Advance.{next_node};
 ghost use Rattle.astar.specs.Expansion.{completed, kept_or_dropped, stored, visited, visited_by, expanded};
 ghost use Rattle.queue.specs.Keeping.{Kept};
 ghost use Rattle.search.specs.States.{the_state};
@@ -190,33 +191,36 @@ fn visit_all<B: LowerBound, L: OpenList>(
     }
 }
 
-// Node i, whose entry is the first of the list, is expanded: it is taken, and its children are visited.
-#[tactic(auto, unfolding(astar::specs::Expansion::expanded))]
+// The node whose entry comes first is expanded: its entry is taken, and its children are visited.
+#[tactic(auto, using(crate::proofs::Taking::taken_some), unfolding(astar::specs::Expansion::expanded))]
 pub(crate) fn expand<B: LowerBound, L: OpenList>(
     g: &TaskGraph,
     rule: &B,
     table: &mut Table,
     list: &mut L,
     tally: &mut Tally,
-    i: usize,
     pairs: &Choices,
 )
-    requires pairs { the_choices pairs.now
-        ≡ choices (the_graph g.now) (node_at (the_nodes table.old) i).partial }
-    requires appendable { (t m : ℕ) → Contains (the_choices pairs.now) (t, m)
+    requires waits { 0 < length (L.bag list.old) }
+    requires pairs { let i = next_node (L.bag list.old) in
+        the_choices pairs.now ≡ choices (the_graph g.now) (node_at (the_nodes table.old) i).partial }
+    requires appendable { let i = next_node (L.bag list.old) in
+        (t m : ℕ) → Contains (the_choices pairs.now) (t, m)
         → Appendable (the_graph g.now) (node_at (the_nodes table.old) i).partial t m }
     requires room { Room (length (the_choices pairs.now)) (L.limit list.old)
         (the_state tally.old table.old (L.bag list.old)) }
     requires counts { (1 ≤ tally.old.waiting) × (tally.old.expanded + 1 < 2 ^ 64) }
     ensures is { the_state tally.new table.new (L.bag list.new)
         ≡ expanded (the_graph g.now) (B.number rule.now)
-        (the_state tally.old table.old (L.bag list.old)) i }
+        (the_state tally.old table.old (L.bag list.old)) (next_node (L.bag list.old)) }
     ensures limit { L.limit list.new ≡ L.limit list.old }
     ensures kept { Kept L.kept list.old list.new }
 {
-    let parent = table.node(i);
-    table.expand(i);
-    list.take();
+    let Some(entry) = list.take() else {
+        return;
+    };
+    let parent = table.node(entry.node);
+    table.expand(entry.node);
     tally.expanded += 1;
     tally.waiting -= 1;
     visit_all(g, rule, table, list, tally, &parent, pairs.as_slice());

@@ -42,7 +42,7 @@ impl Search {
     {
         let entry = self.next_entry(g, table, list)?;
         let choices = self.next_choices(g, table, entry)?;
-        expand(g, rule, table, list, &mut self.tally, entry.node, &choices);
+        expand(g, rule, table, list, &mut self.tally, &choices);
         Ok(())
     }
 }

@@ -7,12 +7,13 @@ ghost use Rattle.schedule.specs.Rows.{schedule_of};
 ghost use Rattle.schedule.specs.ListSchedule.{listed};
 ghost use Rattle.nodes.specs.Meaning.{the_nodes};
 ghost use Rattle.queue.specs.Keeping.{Kept};
-ghost use Rattle.astar.specs.declared.outcome.Outcome.TheVariants.{Strange};
+ghost use Rattle.astar.specs.declared.outcome.Outcome.TheVariants.{Strange, Met};
 ghost use Rattle.astar.specs.States.{best_length};
 ghost use Rattle.astar.specs.Opening.{sizes_of, opened};
 ghost use Rattle.astar.specs.Advance.{advanced};
 ghost use Rattle.astar.specs.Endings.{EndsBy, GoesOnTo};
 ghost use Rattle.astar.specs.Course.{Course};
+ghost use Rattle.astar.specs.Laws.{Opens, LeastOf};
 ghost use Rattle.astar.specs.Laws as laws;
 ghost use Rattle.refusal.specs.Refusing.{Refuses};
 ghost use Rattle.search.specs.Refusals.{search_refusal, page_refusal};
@@ -20,7 +21,7 @@ ghost use Rattle.search.specs.Refused.{OpenRefused, FloorRefused, SettleRefused,
 ghost use Rattle.search.specs.declared.fault.SearchFault.TheVariants.{Unsettled};
 ghost use Rattle.search.specs.Calls.{open_fault, floor_fault, settle_fault, best_fault, answer_or, left_or, with_rows};
 ghost use Rattle.search.specs.States.{the_state, moment};
-ghost use Rattle.search.specs.Runs.{Moment, Run, Since};
+ghost use Rattle.search.specs.Runs.{Moment, Run, Since, Settles};
 ghost use Rattle.search.specs.Promise.{floor, best, IsShortest, Promised, InRun};
 ghost use Rattle.search.specs.Promise as promise;
 
@@ -53,6 +54,9 @@ impl Search {
             (listed (the_graph g.now) (the_graph g.now).tasks) (the_nodes table.old)))
             (λ e. (open_fault (the_nodes table.old) (L.bag list.old) (L.limit list.old) ≡ Some e)
             × (the_nodes table.new ≡ the_nodes table.old) × (list.new ≡ list.old)) }
+        ensures fills { IfOk result (λ s. Opens (the_graph g.now) (B.number rule.now)
+            (listed (the_graph g.now) (the_graph g.now).tasks) (the_nodes table.old)
+            (the_state s.tally table.new (L.bag list.new))) }
         ensures refused { Refuses (OpenRefused (the_nodes table.old) (L.bag list.old) (L.limit list.old))
             search_refusal result }
         ensures kept { Kept L.kept list.old list.new }
@@ -101,6 +105,10 @@ impl Search {
             (moment self.new table.new (L.bag list.new) (L.limit list.new)) }
         ensures never { Run (the_graph g.now) (B.number rule.now) false
             (moment self.old table.old (L.bag list.old) (L.limit list.old)) → result ≢ Strange }
+        ensures met { Run (the_graph g.now) (B.number rule.now) false
+            (moment self.old table.old (L.bag list.old) (L.limit list.old)) → result ≡ Met
+            → Settles (the_graph g.now)
+            (moment self.new table.new (L.bag list.new) (L.limit list.new)) }
         ensures promise { Promised (the_graph g.now) }
     {
         self.spend(g, rule, table, list, budget)
@@ -119,7 +127,7 @@ impl Search {
             (the_state self.now.tally table.now (L.bag list.old)) (L.limit list.old)) }
         ensures refused { Refuses (FloorRefused (the_graph g.now) self.now.sizes (L.limit list.old)
             (the_state self.now.tally table.now (L.bag list.old))) search_refusal result }
-        ensures least { IfOk result (λ v. laws.LeastOf
+        ensures least { IfOk result (λ v. LeastOf
             (the_state self.now.tally table.now (L.bag list.old)) v) }
         ensures same { list.new ≡ list.old }
         ensures run { (done : Bool)

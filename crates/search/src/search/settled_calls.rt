@@ -1,9 +1,11 @@
-ghost use Rattle.std.specs.Prelude.{◌≡◌, ◌≤◌, true, length, Ok};
+ghost use Rattle.std.specs.Prelude.{◌≡◌, ◌+◌, ◌≤◌, true, length, Ok, IfOk};
 ghost use Rattle.model.specs.Schedule.{Schedule, Feasible, makespan};
 ghost use Rattle.model.specs.Nodes.{node_at};
 ghost use Rattle.loader.specs.Meaning.{the_graph};
+ghost use Rattle.schedule.specs.Rows.{schedule_of};
 ghost use Rattle.nodes.specs.Meaning.{the_nodes};
 ghost use Rattle.astar.specs.States.{best_length};
+ghost use Rattle.astar.specs.Laws.{LeastOf};
 ghost use Rattle.astar.specs.Laws as laws;
 ghost use Rattle.search.specs.Calls.{floor_fault, best_fault, answer_or, left_or, with_rows};
 ghost use Rattle.refusal.specs.Refusing.{Refuses};
@@ -36,6 +38,8 @@ impl Settled {
         ensures refused { Refuses (FloorRefused (the_graph g.now) self.now.search.sizes
             (L.limit list.old) (the_state self.now.search.tally table.now (L.bag list.old)))
             search_refusal result }
+        ensures least { IfOk result (λ v. LeastOf
+            (the_state self.now.search.tally table.now (L.bag list.old)) v) }
         ensures same { list.new ≡ list.old }
         ensures run { InRun (the_graph g.now) true
             (moment self.now.search table.now (L.bag list.old) (L.limit list.old))
@@ -51,7 +55,10 @@ impl Settled {
 
     // What the search has done.
     pub fn tally(&self) -> Tally
-        ensures { result ≡ self.now.search.tally }
+        ensures is { result ≡ self.now.search.tally }
+        ensures made { result.generated
+            ≡ result.stored + result.duplicates + result.pruned + result.complete }
+        ensures waiting { result.waiting + result.expanded ≡ result.stored + 1 }
     {
         self.search.tally()
     }
@@ -78,6 +85,8 @@ impl Settled {
             (best_fault (the_graph g.now) self.now.search.sizes
             (the_state self.now.search.tally table.now (L.bag list.old)) (L.limit list.old)
             (length rows.old)) }
+        ensures written { IfOk result (λ v. Feasible (the_graph g.now) (schedule_of rows.new)
+            × (makespan (the_graph g.now) (schedule_of rows.new) ≡ v)) }
         ensures same { list.new ≡ list.old }
         ensures run { InRun (the_graph g.now) true
             (moment self.now.search table.now (L.bag list.old) (L.limit list.old))

@@ -1,6 +1,6 @@
 use Rattle.std.proofs.Common.{false}
 use Rattle.loader.proofs.Laws.{the_lawful}
-use Rattle.search.proofs.Calls.{promised-to, advance-ended, advance-course, advance-run, advance-since, advance-never}
+use Rattle.search.proofs.Calls.{promised-to, advance-ended, advance-course, advance-run, advance-since, advance-never, advance-met}
 use Rattle.search.proofs.search.Search.advance.Goals as goal
 
 pub returns-clause-promise : goal.returns-clause-promise
@@ -28,3 +28,8 @@ returns-clause-never g c r =
 pub returns-clause-course : goal.returns-clause-course
 returns-clause-course g c = advance-course _ _ c.args.budget _ _ _ _ _ c.spend.ensures.is c.spend.ensures.sizes c.spend.ensures.limit
     (the_lawful c.args.g.now) (g.L.OpenList.ordered c.args.list.now) c.args.self.now.counts.nodes
+
+pub returns-clause-met : goal.returns-clause-met
+returns-clause-met g c r =
+    advance-met _ _ c.args.budget _ _ _ _ _ c.spend.ensures.is c.spend.ensures.sizes c.spend.ensures.limit
+    ((promised-to c.args.g.now (g.B.LowerBound.number c.args.rule.now) (g.met.B.LowerBound.lower c.args.rule.now)).promise false _ r)
