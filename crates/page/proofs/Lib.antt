@@ -1,4 +1,5 @@
 pub mod Digits
 pub mod Joining
 pub mod Texts
+pub mod LastWords
 pub mod Telling

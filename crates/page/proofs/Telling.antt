@@ -26,6 +26,7 @@ use Rattle.page.specs.Texts.{report_text}
 use Rattle.page.specs.Pages.{closing_of, page_of, text_of, short_fault, page_fault, Truthful, EndsTruly}
 use Rattle.search.proofs.Written.{rows-agree}
 use Rattle.page.proofs.Texts.{text-agrees}
+use Rattle.page.proofs.LastWords.{closed-by, not-both}
 
 -- What a page tells, by the answers of the search.
 
@@ -96,10 +97,15 @@ module _ (g : TaskGraph) (settled done : Bool) (m : Moment) (r : InRun (the_grap
 
 -- in a run a search that goes on ends with open, and a settled one with shortest, which is so
 pub ends-open : (g : TaskGraph) (m : Moment) → InRun (the_graph g) false m → EndsTruly false (page_of (the_graph g) false m)
-ends-open g m r = record { word = ((λ e. cc), (λ e. cc)); shortest = λ e. cc }
+ends-open g m r =
+    let last = closed-by (page_of (the_graph g) false m) in
+    let never_shortest = not-both _ last in
+    record { says_shortest = ((λ x. absurd (never_shortest x)), (λ e. cc)); says_open = ((λ x. refl), (λ e. last)); is_shortest = λ x. absurd (never_shortest x) }
 
 pub ends-shortest : (g : TaskGraph) (m : Moment) → InRun (the_graph g) true m → EndsTruly true (page_of (the_graph g) true m)
-ends-shortest g m r = record { word = ((λ e. refl), (λ e. refl)); shortest = λ e. (truthful g true true m r).shortest refl }
+ends-shortest g m r =
+    let last = closed-by (page_of (the_graph g) true m) in
+    record { says_shortest = ((λ x. refl), (λ e. last)); says_open = ((λ x. absurd (not-both _ x last)), (λ e. cc)); is_shortest = λ x. (truthful g true true m r).shortest refl }
 
 -- and a page is refused as it says
 pub page-refuses : (g : TaskGraph) (settled : Bool) (m : Moment) (room : ℕ) (result : Result ℕ PageFault)

@@ -1,4 +1,4 @@
-use Rattle.std.specs.Prelude.{◌≡◌, ℕ, ◌≤◌, ◌↔◌, Bool, true, false, if◌then◌else◌, nat_lt, List, length, Some, None, Option}
+use Rattle.std.specs.Prelude.{◌≡◌, ℕ, ◌≤◌, ◌↔◌, Bool, true, false, if◌then◌else◌, nat_lt, List, [], ◌∷◌, ◌++◌, length, codes, Some, None, Option}
 use Rattle.model.specs.Graph.{Graph}
 use Rattle.model.specs.Schedule.{Schedule, Feasible, makespan}
 use Rattle.search.specs.declared.fault.SearchFault.TheVariants.{Foreign}
@@ -51,7 +51,13 @@ pub record Truthful (done : Bool) (p : Page) : Type 0 where
   pub as_long : makespan p.graph p.schedule ≡ p.length
   pub shortest : done ≡ true → IsShortest p.graph p.schedule
 
--- the word that ends a page: it is shortest exactly where the search is settled, and then the schedule is shortest
+-- the last line of a text is this word
+abbrev pub LastWord : List ℕ → List ℕ → Type 0
+LastWord text word = (front : List ℕ) × (text ≡ front ++ 10 ∷ (word ++ 10 ∷ []))
+
+-- how the text of a page ends: with shortest exactly where the search is settled, else with open; and where it ends with
+-- shortest, no feasible schedule is shorter than the one that it tells
 pub record EndsTruly (settled : Bool) (p : Page) : Type 0 where
-  pub word : (p.closing ≡ Shortest) ↔ (settled ≡ true)
-  pub shortest : p.closing ≡ Shortest → IsShortest p.graph p.schedule
+  pub says_shortest : LastWord (report_text p) (codes "shortest") ↔ (settled ≡ true)
+  pub says_open : LastWord (report_text p) (codes "open") ↔ (settled ≡ false)
+  pub is_shortest : LastWord (report_text p) (codes "shortest") → IsShortest p.graph p.schedule

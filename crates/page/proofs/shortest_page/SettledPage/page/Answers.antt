@@ -18,13 +18,13 @@ returns g c =
     let m : Moment = moment (search_of c.args.self.now) c.args.table.now (g.L.OpenList.bag c.args.list.now) (g.L.OpenList.limit c.args.list.now) in
     let best : Ok c.in_ok-length.length ≡ answer_or (best_length m) (best_fault (the_graph c.args.g.now) m.sizes m.state m.limit (length BLANK)) = search rules in
     let low : Ok c.in_ok-floor.floor ≡ answer_or (floor m) (floor_fault (the_graph c.args.g.now) m.sizes m.state m.limit) = search rules in
-    let told = page-told _ true m _ BLANK _ _ _ best c.best.ensures.rows low c.tally.ensures _ _ _ c.write.ensures.is c.write.ensures.buffer in record {
+    let told = page-told _ true m _ BLANK _ _ _ best c.best.ensures.rows low c.tally.ensures.is _ _ _ c.write.ensures.is c.write.ensures.buffer in record {
       is = told.0;
       refused = page-refuses c.args.g.now true m (length c.args.buffer.now) _ told.0;
       buffer = told.1;
       same = search rules;
       run = λ done r h. run-told c.args.g.now true done _ r (length c.args.buffer.now) _ told.0 h;
-      room = λ done r. roomy _ true m _ BLANK _ _ _ best c.best.ensures.rows low c.tally.ensures c.write.ensures.room;
+      room = λ done r. roomy _ true m _ BLANK _ _ _ best c.best.ensures.rows low c.tally.ensures.is c.write.ensures.room;
       ending = ends-shortest c.args.g.now m;
       promise = promised-to c.args.g.now;
     }
