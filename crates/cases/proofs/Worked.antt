@@ -10,13 +10,13 @@ use Rattle.loader.specs.View.{leads}
 use Rattle.schedule.specs.ListSchedule.{listed, next_task, earliest}
 use Rattle.astar.specs.Expansion.{visited, expanded}
 use Rattle.astar.specs.Advance.{advanced}
-use Rattle.cases.specs.Table.{ExampleRead, Levels, ListSchedule, Bounds, Checks, Overlaps, Refused, Searches, ExampleSearched, Numbers, Wordings, ExamplePage, WithDuplicates, FiveTasks}
+use Rattle.cases.specs.Table.{FilesRead, Levels, ListSchedule, Bounds, Checks, Overlaps, Refused, Searches, ExampleSearched, Numbers, Wordings, ExamplePage, OpenPage, WithDuplicates, FiveTasks}
 use Rattle.std.specs.Fmt.{digits}
 use Rattle.page.specs.Texts.{report_text}
 
-pub example-read : ExampleRead
+pub files-read : FilesRead
 unfolding any first leads
-example-read = refl
+files-read = (refl, refl, refl, refl)
 
 pub levels : Levels
 unfolding level
@@ -40,7 +40,7 @@ overlaps = (refl, refl)
 
 pub refused : Refused
 unfolding any first leads
-refused = (refl, refl)
+refused = (refl, refl, refl)
 
 pub searches : Searches
 unfolding any first level listed next_task earliest normal_form append tried choices is_duplicate is_held is_orderly is_complete visited expanded advanced
@@ -51,11 +51,15 @@ unfolding any first level listed next_task earliest normal_form append tried cho
 example-searched = (refl, refl, refl, refl)
 
 pub numbers : Numbers
-numbers = (refl, refl, refl, refl, refl, refl, refl, refl, refl)
+numbers = ((refl, refl, refl, refl, refl, refl, refl, refl), (refl, refl, refl, refl), (refl, refl, refl), (refl, refl, refl, refl, refl))
 
 pub example-page : ExamplePage
 unfolding any first level listed next_task earliest normal_form append tried choices is_duplicate is_held is_orderly is_complete visited expanded advanced report_text digits
 example-page = refl
+
+pub open-page : OpenPage
+unfolding report_text digits
+open-page = refl
 
 pub with-duplicates : WithDuplicates
 unfolding any first level listed next_task earliest normal_form append tried choices is_duplicate is_held is_orderly is_complete visited expanded advanced

@@ -1,4 +1,4 @@
-use Rattle.std.specs.Prelude.{◌≡◌, ℕ, true, List, [], ◌∷◌, ◌++◌, codes, Ok, Err, Result, replicate}
+use Rattle.std.specs.Prelude.{◌≡◌, ℕ, true, false, List, [], ◌∷◌, ◌++◌, codes, Ok, Err, Result, replicate}
 use Rattle.model.specs.Graph.{Graph, level}
 use Rattle.model.specs.Partial.{Partial, nothing, whole}
 use Rattle.model.specs.Bounds.{path_bound, load_bound, arrival_bound, joined_bound}
@@ -6,11 +6,13 @@ use Rattle.model.specs.Nodes.{no_node}
 use Rattle.model.specs.Schedule.{makespan}
 use Rattle.refusal.specs.declared.layer.Layer.{Layer}
 use Rattle.refusal.specs.declared.refusal.Refusal.{Refusal}
-use Rattle.refusal.specs.declared.layer.Layer.TheVariants.{Bytes, Records, Graph as GraphLayer, Search as SearchLayer, Check, Page as PageLayer}
+use Rattle.refusal.specs.declared.layer.Layer.TheVariants.{Bytes as BytesLayer, Records as RecordsLayer, Graph as GraphLayer, Search as SearchLayer, Check as CheckLayer, Page as PageLayer}
 use Rattle.loader.specs.declared.transfer.Transfer.{Transfer}
 use Rattle.loader.specs.Description.{Description, described}
 use Rattle.loader.specs.Chaining.{lifted}
 use Rattle.loader.specs.Parse.{parse}
+use Rattle.loader.specs.declared.faults.RecordsFault.TheVariants as record_faults
+use Rattle.loader.specs.declared.faults.GraphFault.TheVariants.{Records, Range, TooMany, Twice, Cycle}
 use Rattle.loader.specs.Refusals.{refusal_of}
 use Rattle.partial.specs.declared.placement.Placement.{Placement}
 use Rattle.schedule.specs.Check.{checked}
@@ -76,12 +78,39 @@ there_and_back =
     6 ∷ 0 ∷ 3 ∷ 0 ∷ 1 ∷ 0 ∷ 0 ∷ 0 ∷ 0 ∷ 0 ∷
     0 ∷ 0 ∷ 4 ∷ 0 ∷ []
 
--- two tasks of work 2 without transfers, on two machines
-abbrev pub pair : Graph
-pair = described (record { tasks = 2; machines = 2; works = 2 ∷ 2 ∷ []; transfers = [] })
+-- one task of work 5 on two machines
+abbrev pub single : Description
+single = record { tasks = 1; machines = 2; works = 5 ∷ []; transfers = [] }
 
-abbrev pub ExampleRead : Type 0
-ExampleRead = parse example_file ≡ Ok example
+abbrev pub single_file : List ℕ
+single_file = 4 ∷ 0 ∷ 1 ∷ 0 ∷ 1 ∷ 0 ∷ 2 ∷ 0 ∷ 2 ∷ 0 ∷ 2 ∷ 0 ∷ 5 ∷ 0 ∷ 0 ∷ 0 ∷ 4 ∷ 0 ∷ []
+
+-- two tasks of work 2 without transfers, on two machines
+abbrev pub pair : Description
+pair = record { tasks = 2; machines = 2; works = 2 ∷ 2 ∷ []; transfers = [] }
+
+abbrev pub pair_file : List ℕ
+pair_file =
+    4 ∷ 0 ∷ 1 ∷ 0 ∷ 2 ∷ 0 ∷ 2 ∷ 0 ∷
+    2 ∷ 0 ∷ 2 ∷ 0 ∷ 2 ∷ 0 ∷
+    2 ∷ 0 ∷ 2 ∷ 0 ∷ 2 ∷ 0 ∷
+    0 ∷ 0 ∷ 4 ∷ 0 ∷ []
+
+-- one task on one machine, of work 1,000 and of work 1,001
+abbrev pub work_of_1000 : List ℕ
+work_of_1000 = 4 ∷ 0 ∷ 1 ∷ 0 ∷ 1 ∷ 0 ∷ 1 ∷ 0 ∷ 2 ∷ 0 ∷ 2 ∷ 0 ∷ 232 ∷ 3 ∷ 0 ∷ 0 ∷ 4 ∷ 0 ∷ []
+
+abbrev pub work_of_1001 : List ℕ
+work_of_1001 = 4 ∷ 0 ∷ 1 ∷ 0 ∷ 1 ∷ 0 ∷ 1 ∷ 0 ∷ 2 ∷ 0 ∷ 2 ∷ 0 ∷ 233 ∷ 3 ∷ 0 ∷ 0 ∷ 4 ∷ 0 ∷ []
+
+-- what files tell
+abbrev pub FilesRead : Type 0
+FilesRead =
+    (parse example_file ≡ Ok example)
+    × (parse single_file ≡ Ok single)
+    × (parse pair_file ≡ Ok pair)
+    × (parse work_of_1000
+    ≡ Ok (record { tasks = 1; machines = 1; works = 1000 ∷ []; transfers = [] }))
 
 abbrev pub Levels : Type 0
 Levels =
@@ -112,21 +141,18 @@ abbrev pub Checks : Type 0
 Checks =
     (judged (described example) (row 0 0 ∷ row 1 3 ∷ row 0 2 ∷ row 1 6 ∷ []) ≡ Ok 8)
     × (judged (described example) (row 0 0 ∷ row 1 3 ∷ row 0 2 ∷ row 1 5 ∷ [])
-    ≡ Err (refused 14 3 Check))
+    ≡ Err (refused 14 3 CheckLayer))
 
 abbrev pub Overlaps : Type 0
 Overlaps =
-    (judged pair (row 0 0 ∷ row 0 2 ∷ []) ≡ Ok 4)
-    × (judged pair (row 0 0 ∷ row 0 1 ∷ []) ≡ Err (refused 15 0 Check))
+    (judged (described pair) (row 0 0 ∷ row 0 2 ∷ []) ≡ Ok 4)
+    × (judged (described pair) (row 0 0 ∷ row 0 1 ∷ []) ≡ Err (refused 15 0 CheckLayer))
 
 abbrev pub Refused : Type 0
 Refused =
-    (lifted refusal_of (parse []) ≡ Err (refused 1 0 Bytes))
+    (lifted refusal_of (parse []) ≡ Err (refused 1 0 BytesLayer))
+    × (lifted refusal_of (parse work_of_1001) ≡ Err (refused 4 8 GraphLayer))
     × (lifted refusal_of (parse there_and_back) ≡ Err (refused 8 8 GraphLayer))
-
--- one task of work 5 on two machines
-abbrev pub single : Description
-single = record { tasks = 1; machines = 2; works = 5 ∷ []; transfers = [] }
 
 -- a search of a graph with n blank nodes and the three rules joined, opened and advanced once with budget k
 abbrev searched : Description → ℕ → ℕ → SearchState × Outcome
@@ -164,27 +190,38 @@ ExampleSearched =
     × (floor (searched example 256 10000).0 ≡ 8)
     × (best_length (searched example 256 10000).0 ≡ 8)
 
--- the refusals of the calls, by number, place and layer
+-- each refusal by number, place and layer
 abbrev pub Numbers : Type 0
 Numbers =
-    (search_refusal search_faults.Table ≡ refused 9 0 SearchLayer)
+    ((refusal_of (Records (record_faults.Bytes (record { place = 20 }))) ≡ refused 1 20 BytesLayer)
+    × (refusal_of (Records (record_faults.Kind 21)) ≡ refused 2 21 RecordsLayer)
+    × (refusal_of (Records (record_faults.Length 22)) ≡ refused 3 22 RecordsLayer)
+    × (refusal_of (Range 23) ≡ refused 4 23 GraphLayer)
+    × (refusal_of (TooMany 24) ≡ refused 5 24 GraphLayer)
+    × (refusal_of (Twice 25) ≡ refused 6 25 GraphLayer)
+    × (refusal_of (Records (record_faults.Tail 26)) ≡ refused 7 26 RecordsLayer)
+    × (refusal_of (Cycle 27) ≡ refused 8 27 GraphLayer))
+    × ((search_refusal search_faults.Table ≡ refused 9 0 SearchLayer)
     × (search_refusal search_faults.List ≡ refused 10 0 SearchLayer)
     × (search_refusal search_faults.Foreign ≡ refused 11 0 SearchLayer)
-    × (search_refusal search_faults.Unsettled ≡ refused 12 0 SearchLayer)
-    × (check_refusal (check_faults.Rows 3) ≡ refused 13 3 Check)
-    × (check_refusal (check_faults.Early 2) ≡ refused 14 2 Check)
-    × (check_refusal (check_faults.Overlap 1) ≡ refused 15 1 Check)
+    × (search_refusal search_faults.Unsettled ≡ refused 12 0 SearchLayer))
+    × ((check_refusal (check_faults.Rows 3) ≡ refused 13 3 CheckLayer)
+    × (check_refusal (check_faults.Early 2) ≡ refused 14 2 CheckLayer)
+    × (check_refusal (check_faults.Overlap 1) ≡ refused 15 1 CheckLayer))
+    × ((page_refusal (page_faults.Search search_faults.Table) ≡ refused 9 0 SearchLayer)
+    × (page_refusal (page_faults.Search search_faults.List) ≡ refused 10 0 SearchLayer)
     × (page_refusal (page_faults.Search search_faults.Foreign) ≡ refused 11 0 SearchLayer)
-    × (page_refusal page_faults.Short ≡ refused 16 0 PageLayer)
+    × (page_refusal (page_faults.Search search_faults.Unsettled) ≡ refused 12 0 SearchLayer)
+    × (page_refusal page_faults.Short ≡ refused 16 0 PageLayer))
 
 -- and as they are worded, one of each layer
 abbrev pub Wordings : Type 0
 Wordings =
-    (wording (refused 1 0 Bytes) ≡ codes "refused 1 at 0 in bytes")
-    × (wording (refused 2 14 Records) ≡ codes "refused 2 at 14 in records")
+    (wording (refused 1 0 BytesLayer) ≡ codes "refused 1 at 0 in bytes")
+    × (wording (refused 2 14 RecordsLayer) ≡ codes "refused 2 at 14 in records")
     × (wording (refused 8 8 GraphLayer) ≡ codes "refused 8 at 8 in graph")
     × (wording (refused 11 0 SearchLayer) ≡ codes "refused 11 at 0 in search")
-    × (wording (refused 14 2 Check) ≡ codes "refused 14 at 2 in check")
+    × (wording (refused 14 2 CheckLayer) ≡ codes "refused 14 at 2 in check")
     × (wording (refused 16 0 PageLayer) ≡ codes "refused 16 at 0 in page")
 
 -- the page of the example, searched to its end and settled
@@ -208,6 +245,38 @@ ExamplePage = text_of (described example) true example_end
     ++ (line (codes "length 8 floor 8")
     ++ (line (codes "taken 5 made 11 put 6 twins 0 cut 3 complete 2 waiting 2")
     ++ line (codes "shortest")))))))
+
+-- the page of a search that goes on, of which no two numbers are alike
+abbrev going_on : Moment
+going_on = record {
+  sizes = sizes_of (described single) (replicate 20 no_node);
+  state = record {
+    tally = record {
+      expanded = 11;
+      generated = 12;
+      stored = 13;
+      duplicates = 14;
+      pruned = 15;
+      complete = 16;
+      waiting = 17;
+    };
+    nodes = record {
+      partial = record { placed = λ _. true; machine = λ _. 3; start = λ _. 4 };
+      bound = 10;
+      waiting = false;
+    } ∷ [];
+    bag = record { bound = 8; node = 7 } ∷ [];
+  };
+  limit = 20;
+}
+
+abbrev pub OpenPage : Type 0
+OpenPage = text_of (described single) false going_on
+    ≡ line (codes "tasks 1 machines 2")
+    ++ (line (codes "task 0 machine 3 start 4 finish 9")
+    ++ (line (codes "length 10 floor 8")
+    ++ (line (codes "taken 11 made 12 put 13 twins 14 cut 15 complete 16 waiting 17")
+    ++ line (codes "open"))))
 
 -- searches with duplicates
 abbrev three : Description

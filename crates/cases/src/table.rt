@@ -1,8 +1,8 @@
-ghost use Rattle.cases.specs.Table.{ExampleRead, Levels, ListSchedule, Bounds, Checks, Overlaps, Refused, Searches, ExampleSearched, Numbers, Wordings, ExamplePage, WithDuplicates, FiveTasks};
+ghost use Rattle.cases.specs.Table.{FilesRead, Levels, ListSchedule, Bounds, Checks, Overlaps, Refused, Searches, ExampleSearched, Numbers, Wordings, ExamplePage, OpenPage, WithDuplicates, FiveTasks};
 
 // The worked cases, as equalities that the checker computes.
 pub fn worked_cases()
-    ensures read { ExampleRead }
+    ensures read { FilesRead }
     ensures levels { Levels }
     ensures list { ListSchedule }
     ensures bounds { Bounds }
@@ -14,6 +14,7 @@ pub fn worked_cases()
     ensures numbers { Numbers }
     ensures wordings { Wordings }
     ensures page { ExamplePage }
+    ensures open_page { OpenPage }
     ensures duplicates { WithDuplicates }
     ensures five { FiveTasks }
 {}
