@@ -1,4 +1,4 @@
-use Rattle.std.specs.Prelude.{◌≡◌, ◌≢◌, ℕ, zero, suc, ◌≤◌, Bool, true, false, List, is_none}
+use Rattle.std.specs.Prelude.{◌≡◌, ℕ, zero, suc, ◌<◌, ◌≤◌, Bool, true, false, List, is_none}
 use Rattle.model.specs.Graph.{Graph}
 use Rattle.model.specs.Schedule.{Schedule, Feasible, makespan}
 use Rattle.model.specs.Bounds.{Bound}
@@ -54,7 +54,7 @@ ShortestAt g b m = Run g b true m × IsShortest g (best m)
 -- is shorter than the floor
 abbrev pub OpenAt : Graph → Bound → Moment → Type 0
 OpenAt g b m =
-    Run g b false m × (floor m ≢ length m) × Feasible g (best m)
+    Run g b false m × (floor m < length m) × Feasible g (best m)
     × ((p : Schedule) → Feasible g p → floor m ≤ makespan g p)
 
 -- what is known at the end

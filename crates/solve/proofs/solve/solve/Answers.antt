@@ -5,10 +5,23 @@ use Rattle.search.specs.States.{moment}
 use Rattle.search.specs.Promise.{best, IsShortest}
 use Rattle.nodes.specs.Meaning.{the_nodes}
 use Rattle.search.specs.Runs.{Moment}
+use Rattle.search.proofs.Keeping.{kept_on}
 use Rattle.schedule.specs.ListSchedule.{listed}
 use Rattle.astar.specs.Opening.{sizes_of, opened}
 use Rattle.solve.specs.Solving.{advanced_often, ended, would_settle, ShortestAt, OpenAt}
 use Rattle.solve.proofs.solve.solve.Goals as goal
+
+pub loop-preserved : goal.loop-preserved
+loop-preserved g c =
+    let i = c.loop.invariant in
+    let a = c.advance.ensures in
+    record {
+      state = search rules;
+      sizes = a.sizes ∙ i.sizes;
+      run = a.run i.run;
+      kept = kept_on g.L.OpenList.kept _ _ _ i.kept a.kept;
+      limit = a.limit ∙ i.limit;
+    }
 
 pub returns-in-Ok-clause-solves : goal.returns-in-Ok-clause-solves
 returns-in-Ok-clause-solves g c =
@@ -34,7 +47,7 @@ returns-in-Err-clause-solves g c =
     (sym e.same)
     (subst (λ (s : Search). OpenAt G N (moment s c.loop.table (g.L.OpenList.bag c.loop.list) (g.L.OpenList.limit c.loop.list)))
     (sym e.is.1)
-    (R, (λ z. let q : false ≡ true = s.0.1 z in cc), P.feasible, P.bounded))
+    (R, P.unsettled (λ z. let q : false ≡ true = s.0.1 (P.settles.0 z) in cc), P.feasible, P.bounded))
 
 pub returns-in-Ok-clause-is : goal.returns-in-Ok-clause-is
 returns-in-Ok-clause-is g c =
