@@ -1,4 +1,4 @@
-use Rattle.std.proofs.Common.{◌≡◌, ℕ, ◌+◌, ◌<◌, ◌≤◌, ◌≢◌, max, Bool, true, false, length, List, set, refl, sym, ap, ◌∙◌, arith, get_or-set_same, get_or-set_other}
+use Rattle.std.proofs.Common.{◌≡◌, ℕ, ◌<◌, ◌≢◌, max, true, false, length, set, refl, sym, ap, ◌∙◌, arith, get_or-set_same, get_or-set_other}
 use borrow.Author.Clash.{clash}
 use native.Mathlib.Decide.{dec_lt}
 use Rattle.model.specs.Graph.{Graph}

@@ -1,4 +1,4 @@
-use Rattle.std.proofs.Common.{◌≡◌, ℕ, zero, suc, ◌+◌, ◌-◌, ◌<◌, ◌≤◌, Bool, true, false, List, [], ◌∷◌, length, Some, sym, refl, ap, ◌∙◌, subst, inl, inr, arith}
+use Rattle.std.proofs.Common.{◌≡◌, ℕ, zero, suc, ◌+◌, ◌-◌, ◌<◌, ◌≤◌, Bool, true, false, List, [], ◌∷◌, length, Some, sym, refl, ap, subst, inl, inr, arith}
 use native.Mathlib.Decide.{ℕ_discrete, dec_lt}
 use borrow.Author.Clash.{clash}
 use Rattle.std.specs.List.{Contains}
@@ -9,12 +9,12 @@ use Rattle.model.proofs.Range.{cond-le}
 use Rattle.bag.specs.Bag.{first}
 use Rattle.queue.specs.declared.entry.Entry.{Entry}
 use Rattle.astar.specs.declared.sizes.Sizes.{Sizes}
-use Rattle.astar.specs.States.{SearchState, used, best_length}
+use Rattle.astar.specs.States.{SearchState, used}
 use Rattle.astar.specs.Expansion.{expanded}
 use Rattle.astar.specs.Advance.{next_node, is_sound}
 use Rattle.astar.specs.Invariant.{partial_at}
 use Rattle.astar.specs.Endings.{Sound, Applies, after}
-use Rattle.astar.specs.Endings.Applies.{foreign, none_below, spent, unsound, cramped}
+use Rattle.astar.specs.Endings.Applies.{foreign, none_below, unsound, cramped}
 use Rattle.astar.specs.Fates.{Fate, same, count, ByChildren}
 use Rattle.astar.specs.Fates.Fate.{stored}
 use Rattle.astar.specs.Course.{Course, AdvanceVisits}

@@ -1,4 +1,4 @@
-use Rattle.std.proofs.Common.{◌≡◌, ℕ, ◌+◌, ◌<◌, ◌≤◌, ◌≢◌, min, max, map, Bool, cond, true, false, ◌&&◌, length, refl, sym, ap, ◌∙◌, subst, List, [], ◌∷◌, set, ltb, leb, arith, length-set, get_or-set_same, get_or-set_other}
+use Rattle.std.proofs.Common.{◌≡◌, ℕ, ◌+◌, ◌<◌, ◌≤◌, min, max, map, Bool, cond, true, false, length, refl, sym, ap, ◌∙◌, List, [], ◌∷◌, set, ltb, leb, arith, length-set, get_or-set_same, get_or-set_other}
 use borrow.Author.Clash.{clash}
 use Rattle.std.proofs.lemmas.Bool.{ltb-true, ltb-false, leb-true, leb-false, lt-ltb, le-leb, lt-leb, le-ltb, and_from, false_from_ne_true}
 use Rattle.std.proofs.lemmas.List.{length-map}
@@ -6,18 +6,17 @@ use Rattle.std.specs.List.{fold}
 use Rattle.model.specs.Graph.{Graph}
 use Rattle.model.specs.Schedule.{makespan}
 use Rattle.model.specs.Partial.{Partial, Complete, Unfinished, whole}
-use Rattle.model.specs.Children.{choices, child, children}
+use Rattle.model.specs.Children.{choices, child}
 use Rattle.model.specs.Bounds.{Bound}
-use Rattle.model.specs.Nodes.{SearchNode, no_node, node_at, is_duplicate, is_held}
+use Rattle.model.specs.Nodes.{SearchNode, no_node, node_at, is_held}
 use Rattle.model.specs.Soundness.{is_complete}
 use Rattle.model.proofs.Range.{every-from, every-off, any-on}
 use Rattle.astar.specs.States.{SearchState, used, best_length, best_node, waiting_node, expanded_node}
 use Rattle.astar.specs.Expansion.{completed, stored as kept, kept_or_dropped, visited, visited_by, taken, expanded}
-use Rattle.astar.specs.Invariant.{InUse, partial_at}
-use Rattle.astar.specs.Fates.{Held, Fate, ComesTo, Written, Leaves, Visits, Taken, count, ByChildren, ChildFates, ExpansionVisits}
+use Rattle.astar.specs.Fates.{Held, Fate, ComesTo, Written, Leaves, Visits, count, ChildFates, ExpansionVisits}
 use Rattle.astar.specs.Fates.Fate.{complete, pruned, duplicate, stored}
 use Rattle.astar.specs.Fates.Visits.{none, more}
-use Rattle.astar.proofs.Duplicates.{any-held, none-held}
+use Rattle.astar.proofs.Duplicates.{any-held}
 use Rattle.astar.proofs.Visiting.{complete-all, lacks-one}
 use Rattle.astar.proofs.Counts.{size-visit, used-visit}
 

@@ -1,14 +1,12 @@
-use Rattle.std.proofs.Common.{◌≡◌, ℕ, zero, suc, ◌+◌, ◌-◌, ◌*◌, ◌<◌, ◌≤◌, ◌≢◌, ◌⊎◌, max, Bool, true, false, cond, sym, refl, ap, ◌∙◌, inl, inr, ⊎_elim, arith}
-use native.Mathlib.Decide.{ℕ_discrete, dec_lt}
+use Rattle.std.proofs.Common.{◌≡◌, ℕ, zero, suc, ◌+◌, ◌<◌, ◌≤◌, ◌⊎◌, Bool, true, false, cond, refl, inl, inr, ⊎_elim, arith}
+use native.Mathlib.Decide.{dec_lt}
 use native.Mathlib.Nat.{mul_comm}
-use Rattle.std.specs.Int.{div_ceil}
 use Rattle.std.proofs.lemmas.Grind.{div_ceil_times}
-use Rattle.model.specs.Range.{top, least, put}
+use Rattle.model.specs.Range.{top, least}
 use Rattle.model.specs.Graph.{Graph, level}
-use Rattle.model.specs.Schedule.{Schedule, delay, makespan}
-use Rattle.model.specs.Partial.{Partial, Free, is_free, arrival, data_ready, machine_finish, start_on, append}
-use Rattle.model.specs.Bounds.{Bound, load, load_bound, path_at, path_bound, arrival_at, arrival_bound, earliest_data, larger}
-use Rattle.model.specs.Measures.{Least, Greatest, Late, Appended, MakespanIsGreatest, LoadIsLeast, PathIsGreatest, EarliestIsLeast, ArrivalIsGreatest, LargerIsGreatest, AppendIsLeast}
+use Rattle.model.specs.Partial.{Partial, Free, is_free, arrival, data_ready, start_on, append}
+use Rattle.model.specs.Bounds.{load, load_bound, path_at, arrival_at, arrival_bound, earliest_data}
+use Rattle.model.specs.Measures.{Least, Late, MakespanIsGreatest, LoadIsLeast, PathIsGreatest, EarliestIsLeast, ArrivalIsGreatest, LargerIsGreatest, AppendIsLeast}
 use Rattle.model.proofs.Range.{le-top, top-le, least-le, cond-le, put_same, put_other}
 use Rattle.model.proofs.Rules.{free-test, test-free, ready-has, finish-has, finish-le}
 use Rattle.std.proofs.lemmas.Bool.{eqb-true}

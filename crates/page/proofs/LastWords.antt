@@ -1,7 +1,6 @@
-use Rattle.std.proofs.Common.{◌≡◌, ℕ, ◌+◌, ◌<◌, Bool, true, false, ◌↔◌, List, [], ◌∷◌, ◌++◌, length, get_or, codes, refl, sym, ap, ◌∙◌, subst, arith}
+use Rattle.std.proofs.Common.{◌≡◌, ℕ, ◌+◌, List, [], ◌∷◌, ◌++◌, length, get_or, codes, sym, ap, ◌∙◌, arith}
 use Rattle.std.specs.List.{join_by}
 use Rattle.std.proofs.lemmas.List.{append_assoc, length-append, get_or-append-add}
-use Rattle.page.specs.declared.closing.Closing.TheVariants.{Open, Shortest}
 use Rattle.page.specs.Words.{word_text, closing_word}
 use Rattle.page.specs.Lines.{field_text, line_text}
 use Rattle.page.specs.Texts.{Page, head_fields, length_fields, tally_fields, task_lines, report_text}

@@ -1,13 +1,5 @@
-use Rattle.std.proofs.Common.{◌≡◌, ℕ, zero, suc, ◌<◌, List, map, drop, get_or, sym, refl, ap, subst, ◌∙◌, arith}
-use Rattle.std.specs.List.{range_with_len}
-use Rattle.std.proofs.lemmas.List.{get_or_append_left}
-use Rattle.std.proofs.lemmas.List.FromFn.{length-map-range_with_len, get_or-map-range_with_len}
-use Rattle.model.specs.Graph.{Graph}
+use Rattle.std.proofs.Common.{◌≡◌, ℕ, zero, suc, refl, arith}
 use Rattle.model.specs.Schedule.{Schedule}
-use Rattle.model.specs.Partial.{Partial, whole}
-use Rattle.partial.specs.declared.placement.Placement.{Placement}
-use Rattle.schedule.specs.Rows.{blank, schedule_of}
-use Rattle.search.specs.Calls.{row_of, with_rows}
 use Rattle.search.proofs.Written.{Agree}
 use Rattle.page.specs.Texts.{Page, task_lines, report_text}
 

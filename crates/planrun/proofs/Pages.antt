@@ -1,4 +1,4 @@
-use Rattle.std.proofs.Common.{◌≡◌, ℕ, ◌≤◌, Bool, List, ◌++◌, length, drop, None, Some, Option, Ok, Err, Result, sym, refl, ap, ◌∙◌, subst, arith}
+use Rattle.std.proofs.Common.{◌≡◌, ℕ, ◌≤◌, Bool, List, ◌++◌, length, drop, Ok, Result, ap, ◌∙◌, subst, arith}
 use Rattle.model.specs.Graph.{Graph}
 use Rattle.model.specs.Bounds.{Bound, IsLowerBound, joined_bound}
 use Rattle.model.proofs.Paths.{path-lower, arrival-lower, larger-lower}
@@ -7,7 +7,6 @@ use Rattle.loader.specs.declared.graph.TaskGraph.{TaskGraph}
 use Rattle.loader.specs.Meaning.{the_graph}
 use Rattle.queue.specs.declared.entry.Entry.{Entry}
 use Rattle.nodes.specs.declared.table.Table.{Table}
-use Rattle.refusal.specs.declared.refusal.Refusal.{Refusal}
 use Rattle.search.specs.declared.fault.PageFault.{PageFault}
 use Rattle.search.specs.Calls.{answer_or, left_or}
 use Rattle.search.specs.Runs.{Moment}

@@ -1,9 +1,9 @@
-use Rattle.std.proofs.Common.{◌≡◌, ℕ, ◌<◌, ◌≤◌, Bool, true, false, cond, ◌&&◌, ◌||◌, ltb, List, length, Some, None, Option, Ok, Err, Result, MatchResult, sym, refl, ap, ◌∙◌, inl, inr, ⊎_elim, subst, arith}
+use Rattle.std.proofs.Common.{◌≡◌, ℕ, Bool, true, false, cond, ◌&&◌, ◌||◌, ltb, List, length, Some, None, Option, Ok, Err, Result, MatchResult, sym, refl, inl, inr, subst, arith}
 use borrow.Author.Clash.{clash}
-use Rattle.std.proofs.lemmas.Bool.{eq-eqb, eqb-true, ltb-true, ltb-false, and_from, and_parts, and_cases, cond_both}
-use Rattle.model.specs.Graph.{Graph, Lawful, Ends}
+use Rattle.std.proofs.lemmas.Bool.{eq-eqb, eqb-true, ltb-true, ltb-false, and_from, and_parts}
+use Rattle.model.specs.Graph.{Graph, Lawful}
 use Rattle.model.specs.Schedule.{Feasible, makespan}
-use Rattle.model.specs.Partial.{Complete, whole}
+use Rattle.model.specs.Partial.{whole}
 use Rattle.model.specs.Nodes.{SearchNode, node_at}
 use Rattle.model.specs.Soundness.{is_complete}
 use Rattle.model.proofs.Range.{every-from}
@@ -13,8 +13,6 @@ use Rattle.loader.proofs.Laws.{the_lawful}
 use Rattle.refusal.specs.declared.refusal.Refusal.{Refusal}
 use Rattle.refusal.specs.Refusing.{Refuses}
 use Rattle.queue.specs.declared.entry.Entry.{Entry}
-use Rattle.schedule.specs.declared.fault.CheckFault.{CheckFault}
-use Rattle.schedule.specs.Check.{judged}
 use Rattle.schedule.proofs.Judging.{judged-cases, obeys-all, judged-feasible}
 use Rattle.astar.specs.declared.sizes.Sizes.{Sizes}
 use Rattle.astar.specs.States.{SearchState, best_length}

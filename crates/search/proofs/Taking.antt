@@ -1,4 +1,4 @@
-use Rattle.std.proofs.Common.{◌≡◌, ℕ, ◌<◌, List, [], ◌∷◌, length, Some, None, Option, sym, ap, ◌∙◌, arith}
+use Rattle.std.proofs.Common.{◌≡◌, ◌<◌, List, [], ◌∷◌, length, Some, None, Option, sym, ap, arith}
 use Rattle.bag.specs.Bag.{first}
 use Rattle.queue.specs.declared.entry.Entry.{Entry}
 use Rattle.astar.specs.Advance.{next_node}

@@ -1,4 +1,4 @@
-use Rattle.std.proofs.Common.{◌≡◌, ℕ, ◌<◌, ◌≤◌, true, List, length, map, drop, get_or, Ok, Err, Result, IfOk, None, Some, Option, sym, refl, ap, subst, ◌∙◌, arith}
+use Rattle.std.proofs.Common.{◌≡◌, ℕ, ◌<◌, List, length, map, drop, get_or, Result, IfOk, None, Some, Option, sym, refl, ap, subst, ◌∙◌, arith}
 use Rattle.std.specs.List.{range_with_len}
 use Rattle.std.proofs.lemmas.List.{get_or_append_left}
 use Rattle.std.proofs.lemmas.List.FromFn.{length-map-range_with_len, get_or-map-range_with_len}
@@ -13,8 +13,8 @@ use Rattle.partial.specs.declared.placement.Placement.{Placement}
 use Rattle.schedule.specs.Rows.{blank, schedule_of}
 use Rattle.schedule.proofs.Passing.{alike-feasible, alike-makespan}
 use Rattle.search.specs.declared.fault.PageFault.{PageFault}
-use Rattle.search.specs.Calls.{row_of, with_rows, has_best, best_fault, answer_or, left_or}
-use Rattle.search.specs.Refused.{WriteRefused, HoldsBest}
+use Rattle.search.specs.Calls.{row_of, with_rows, best_fault, answer_or, left_or}
+use Rattle.search.specs.Refused.{HoldsBest}
 use Rattle.search.specs.Runs.{Moment}
 use Rattle.search.specs.Promise.{length as best_length}
 use Rattle.search.proofs.Refusing.{holds-best}

@@ -1,4 +1,4 @@
-use Rattle.std.specs.Prelude.{◌≡◌, ℕ, zero, suc, ◌<◌, ◌≤◌, Bool, true, false, List, is_none}
+use Rattle.std.specs.Prelude.{ℕ, zero, suc, ◌<◌, ◌≤◌, Bool, true, false, List, is_none}
 use Rattle.model.specs.Graph.{Graph}
 use Rattle.model.specs.Schedule.{Schedule, Feasible, makespan}
 use Rattle.model.specs.Bounds.{Bound}
@@ -14,7 +14,7 @@ use Rattle.solve.specs.declared.solve.Solved.{Solved}
 use Rattle.solve.specs.declared.solve.Solved.TheVariants.{Shortest, Open}
 use Rattle.search.specs.Calls.{settle_fault}
 use Rattle.search.specs.States.{moment}
-use Rattle.search.specs.Runs.{Moment, Run, Settles}
+use Rattle.search.specs.Runs.{Moment, Run}
 use Rattle.search.specs.Promise.{floor, best, length, IsShortest}
 
 -- n calls of advance with budget k

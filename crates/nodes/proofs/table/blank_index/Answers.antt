@@ -1,4 +1,4 @@
-use Rattle.std.proofs.Common.{◌≡◌, ℕ, replicate, Option, None, ◌∙◌, ap, arith, rules}
+use Rattle.std.proofs.Common.{ℕ, replicate, Option, None, ◌∙◌, ap, arith, rules}
 use Rattle.nodes.proofs.table.blank_index.Goals as goal
 
 pub returns : goal.returns

@@ -1,10 +1,9 @@
-use Rattle.std.proofs.Common.{rules, ◌≡◌, ℕ, length, take, Ok, sym, ap, ◌∙◌, subst}
+use Rattle.std.proofs.Common.{rules, ◌≡◌, ℕ, length, take, ap, ◌∙◌}
 use Rattle.model.specs.Bounds.{joined_bound}
 use Rattle.loader.specs.Meaning.{the_graph}
 use Rattle.nodes.specs.Meaning.{the_nodes}
-use Rattle.search.specs.Runs.{Moment}
 use Rattle.solve.specs.Solving.{ended}
-use Rattle.planrun.specs.Planning.{Written, TextOf, search_end}
+use Rattle.planrun.specs.Planning.{Written}
 use Rattle.planrun.proofs.Blanks.{opens, given-back, told}
 use Rattle.planrun.proofs.plan.plan_graph.Goals as goal
 

@@ -1,9 +1,8 @@
-use Rattle.std.proofs.Common.{rules, ◌≡◌, ◌++◌, length, drop, Ok, sym, ◌∙◌}
+use Rattle.std.proofs.Common.{sym, ◌∙◌}
 use Rattle.model.specs.Bounds.{joined_bound}
 use Rattle.loader.specs.Meaning.{the_graph}
 use Rattle.nodes.specs.Meaning.{the_nodes}
-use Rattle.search.specs.Runs.{Moment}
-use Rattle.solve.specs.Solving.{end_of, ended}
+use Rattle.solve.specs.Solving.{ended}
 use Rattle.page.proofs.Telling.{never}
 use Rattle.planrun.proofs.Pages.{End, at-end}
 use Rattle.planrun.proofs.plan.search_page.Goals as goal

@@ -1,4 +1,4 @@
-use Rattle.std.proofs.Common.{ℕ, ◌≤◌, Bool, length, sym, subst}
+use Rattle.std.proofs.Common.{◌≤◌, Bool, length, sym, subst}
 use Rattle.loader.specs.Meaning.{the_graph}
 use Rattle.search.specs.Promise.{InRun}
 use Rattle.solve.specs.declared.solve.Solved.{Solved}

@@ -1,4 +1,3 @@
-use Rattle.std.proofs.Common.{rules}
 use Rattle.planrun.proofs.Settings.{none-given, first-refused, first-given}
 use Rattle.planrun.proofs.options.Options.+with_all.Goals as goal
 
