@@ -1,4 +1,4 @@
-use Rattle.std.specs.Prelude.{◌≡◌, ℕ, true, false, List, [], ◌∷◌, ◌++◌, codes, Ok, Err, Result, replicate}
+use Rattle.std.specs.Prelude.{◌≡◌, ◌==◌, ℕ, true, false, List, [], ◌∷◌, ◌++◌, codes, Ok, Err, Result, replicate}
 use Rattle.model.specs.Graph.{Graph, level}
 use Rattle.model.specs.Partial.{Partial, nothing, whole}
 use Rattle.model.specs.Bounds.{path_bound, load_bound, arrival_bound, joined_bound}
@@ -130,12 +130,19 @@ ListSchedule =
     × (finished.start 2 ≡ 3) × (finished.start 3 ≡ 7))
     × (makespan (described example) (whole finished) ≡ 9)
 
--- before any task is placed
+-- task 0 alone is placed, on machine 0 from 1 on
+abbrev late : Partial
+late = record { placed = λ t. t == 0; machine = λ _. 0; start = λ _. 1 }
+
+-- before any task is placed, and then: 11 units of work and idle time on two machines
 abbrev pub Bounds : Type 0
 Bounds =
-    (path_bound (described example) nothing ≡ 7)
+    ((path_bound (described example) nothing ≡ 7)
     × (load_bound (described example) nothing ≡ 5)
-    × (arrival_bound (described example) nothing ≡ 7)
+    × (arrival_bound (described example) nothing ≡ 7))
+    × ((path_bound (described example) late ≡ 8)
+    × (load_bound (described example) late ≡ 6)
+    × (arrival_bound (described example) late ≡ 8))
 
 abbrev pub Checks : Type 0
 Checks =
