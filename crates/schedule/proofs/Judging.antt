@@ -141,9 +141,9 @@ judged-decides g E p = judged-cases g p (λ r. MatchResult r (λ v. Feasible g p
 module _ (g : Graph) (E : Ends g) (rows : List Placement) where
   right : length rows ≡ g.tasks → Judged g rows (judged g (schedule_of rows))
   right e = judged-cases g p (Judged g rows)
-      (λ t x. ((λ F. in-range g p F.1 t x.0 x.1), inr (e, x)))
-      (λ t a x. ((λ F. in-time g p F.1 t x.1), (e, a, x)))
-      (λ t a b x. ((λ F. alone g p F.1 t x.0 x.1), (e, a, b, x)))
+      (λ t x F. in-range g p F.1 t x.0 x.1)
+      (λ t a x F. in-time g p F.1 t x.1)
+      (λ t a b x F. alone g p F.1 t x.0 x.1)
       (λ a b c. ((e, obeys-all g p E a b c), refl))
     where
       p : Schedule
@@ -152,5 +152,5 @@ module _ (g : Graph) (E : Ends g) (rows : List Placement) where
   pub check-right : Judged g rows (checked g rows)
   check-right = elim (ℕ_discrete (length rows) g.tasks) [
     | yes e ↦ rw (eq-eqb (length rows) g.tasks e) (right e)
-    | no ne ↦ rw (ne_eqb (length rows) g.tasks ne) ((λ F. ne F.0), inl (ne, refl))
+    | no ne ↦ rw (ne_eqb (length rows) g.tasks ne) (λ F. ne F.0)
   ]

@@ -3,7 +3,6 @@ use Rattle.model.specs.Graph.{Graph}
 use Rattle.model.specs.Schedule.{Schedule, Feasible, delay, makespan}
 use Rattle.partial.specs.declared.placement.Placement.{Placement}
 use Rattle.schedule.specs.declared.fault.CheckFault.{CheckFault}
-use Rattle.schedule.specs.declared.fault.CheckFault.TheVariants as Fault
 use Rattle.schedule.specs.Rows.{schedule_of}
 
 -- one row for each task, and they are a feasible schedule
@@ -35,22 +34,7 @@ Overlapping g p t =
     (u : ℕ) × (u < g.tasks) × (u ≢ t) × (p.machine u ≡ p.machine t)
     × (p.start t < p.start u + g.work u) × (p.start u < p.start t + g.work t)
 
--- what a refusal says: the first rule that is broken, and the lowest task that breaks it
-abbrev pub Refuses : Graph → List Placement → CheckFault → Type 0
-Refuses g rows (Fault.Rows i) =
-    ((length rows ≢ g.tasks) × (i ≡ g.tasks))
-    ⊎ ((length rows ≡ g.tasks) × Lowest g.tasks (OutOfRange g (schedule_of rows)) i)
-Refuses g rows (Fault.Early t) =
-    (length rows ≡ g.tasks)
-    × Nowhere g.tasks (OutOfRange g (schedule_of rows))
-    × Lowest g.tasks (TooEarly g (schedule_of rows)) t
-Refuses g rows (Fault.Overlap t) =
-    (length rows ≡ g.tasks)
-    × Nowhere g.tasks (OutOfRange g (schedule_of rows))
-    × Nowhere g.tasks (TooEarly g (schedule_of rows))
-    × Lowest g.tasks (Overlapping g (schedule_of rows)) t
-
 -- the check passes exactly the feasible schedules and answers their makespan
 abbrev pub Judged : Graph → List Placement → Result ℕ CheckFault → Type 0
 Judged g rows (Ok v) = Passes g rows × (v ≡ makespan g (schedule_of rows))
-Judged g rows (Err e) = (Passes g rows → ⊥) × Refuses g rows e
+Judged g rows (Err e) = Passes g rows → ⊥

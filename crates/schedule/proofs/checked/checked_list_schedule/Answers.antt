@@ -15,7 +15,7 @@ returns-in_err-makespan c =
     let g = c.args.g.now in
     let G = the_graph g in
     let P = rows_pass G (the_lawful g).numbers.ends (the_lawful g).numbers.sizes.1 c.rows-rows.result (whole (the_partial c.list_schedule.result)) c.rows-rows.ensures.len c.rows-rows.ensures.is c.list_schedule.ensures.feasible in
-    absurd (c.in_err-makespan.ensures.exactly.0 (subst (Passes G) (sym c.task_rows.ensures) P))
+    absurd (c.in_err-makespan.ensures.exactly (subst (Passes G) (sym c.task_rows.ensures) P))
 
 pub returns : goal.returns
 returns c =
