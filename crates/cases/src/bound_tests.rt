@@ -1,15 +1,12 @@
-use crate::files::{RunFile, example};
+use crate::example::example_on;
+use crate::places::{Places, placed};
 use bounds::arrival_bound::ArrivalBound;
 use bounds::larger_of::LargerOf;
 use bounds::load_bound::LoadBound;
 use bounds::lower_bound::{LowerBound, root_bound};
 use bounds::path_bound::PathBound;
 use loader::graph::TaskGraph;
-use loader::load::load;
 use partial::partial::PartialSchedule;
-use partial::placement::Placement;
-use std::alloc::Global;
-use std::test::Fail;
 
 // A rule that knows nothing. It is a lower bound too.
 #[derive(Clone, Copy)]
@@ -27,45 +24,10 @@ impl LowerBound for ZeroBound {
     }
 }
 
-// The example's tasks and transfers on so many machines.
-fn example_on(heap: Global, machines: u16) -> Result<TaskGraph, Fail> {
-    let mut file = RunFile::new(heap, 4, machines)?;
-    for work in [2, 3, 3, 2] {
-        file.record(2, &[work])?;
-    }
-    for transfer in [[0, 1, 1], [0, 2, 1], [1, 3, 2], [2, 3, 1]] {
-        file.record(3, &transfer)?;
-    }
-    file.end()?;
-    let mut graph = TaskGraph::new();
-    let _ = load(&mut graph, file.bytes());
-    Ok(graph)
-}
-
-// A machine and a start for each of the first four tasks that is placed.
-type Places = [Option<(u8, u32)>; 4];
-
-fn placed(tasks: Places) -> PartialSchedule {
-    let mut places = [None; 32];
-    for (t, place) in tasks.iter().enumerate() {
-        places[t] = place.map(|(machine, start)| Placement { machine, start });
-    }
-    PartialSchedule::from(places)
-}
-
-// What the path, the load and the arrival bound say.
-fn told(graph: &TaskGraph, q: &PartialSchedule) -> [u64; 3] {
-    [
-        PathBound.bound(graph, q),
-        LoadBound.bound(graph, q),
-        ArrivalBound.bound(graph, q),
-    ]
-}
-
 const LATEST: u32 = 4294967295;
 
 // How many machines, where the example's tasks are placed, and the path, load and arrival bounds.
-const CASES: [(u16, Places, [u64; 3]); 12] = [
+const CASES: [(u8, Places, [u64; 3]); 12] = [
     (2, [None, None, None, None], [7, 5, 7]),
     (8, [None, None, None, None], [7, 2, 7]),
     (2, [Some((0, 0)), None, None, None], [7, 5, 7]),
@@ -113,34 +75,37 @@ const CASES: [(u16, Places, [u64; 3]); 12] = [
 ];
 
 #[test]
-fn each_rule_alone(rt: HostRuntime) -> Result<(), Fail> {
-    for (machines, tasks, wanted) in CASES {
-        let graph = example_on(rt.alloc(), machines)?;
-        assert_eq!(rt; told(&graph, &placed(tasks)), wanted);
+fn each_rule_alone(rt: HostRuntime) {
+    for (machines, places, wanted) in CASES {
+        let graph = example_on(machines);
+        let tasks = placed(places);
+        let told = [
+            PathBound.bound(&graph, &tasks),
+            LoadBound.bound(&graph, &tasks),
+            ArrivalBound.bound(&graph, &tasks),
+        ];
+        assert_eq!(rt; told, wanted);
     }
-    Ok(())
 }
 
 #[test]
-fn the_larger_of_two(rt: HostRuntime) -> Result<(), Fail> {
+fn rules_joined(rt: HostRuntime) {
+    let graph = example_on(2);
+    let late = placed([Some((0, 60000)), None, None, None]);
     let both = LargerOf {
         first: PathBound,
         second: LoadBound,
     };
-    assert_eq!(rt; root_bound(&both, &example()), 7);
-    assert_eq!(rt; root_bound(&both, &example_on(rt.alloc(), 1)?), 10);
-    Ok(())
-}
-
-#[test]
-fn a_rule_that_answers_zero(rt: HostRuntime) {
-    let graph = example();
-    let late = placed([Some((0, 60000)), None, None, None]);
     let larger = LargerOf {
         first: ZeroBound,
         second: ArrivalBound,
     };
-    assert_eq!(rt; root_bound(&ZeroBound, &graph), 0);
-    assert_eq!(rt; ZeroBound.bound(&graph, &late), 0);
-    assert_eq!(rt; larger.bound(&graph, &late), 60007);
+    let told = [
+        root_bound(&both, &graph),
+        root_bound(&both, &example_on(1)),
+        root_bound(&ZeroBound, &graph),
+        ZeroBound.bound(&graph, &late),
+        larger.bound(&graph, &late),
+    ];
+    assert_eq!(rt; told, [7, 10, 0, 0, 60007]);
 }

@@ -1,9 +1,9 @@
-use crate::files::example;
+use crate::example::example_on;
 use loader::graph::TaskGraph;
 use partial::placement::Placement;
 use refusal::refusal::Refusal;
 use schedule::check::check as check_rows;
-use schedule::checked::checked_list_schedule;
+use schedule::checked::{CheckedSchedule, checked_list_schedule};
 
 const fn row(machine: u8, start: u32) -> Placement {
     Placement { machine, start }
@@ -35,33 +35,29 @@ const CASES: [([(u8, u32); 4], Result<u64, (u8, usize)>); 10] = [
 ];
 
 #[test]
-fn rules_in_order(rt: HostRuntime) {
-    let graph = example();
+fn rows_judged(rt: HostRuntime) {
+    let graph = example_on(2);
     for (tasks, wanted) in CASES {
         let rows = tasks.map(|(machine, start)| row(machine, start));
         assert_eq!(rt; judged(&graph, &rows), wanted);
     }
-}
-
-#[test]
-fn one_row_for_each_task(rt: HostRuntime) {
-    let graph = example();
-    assert_eq!(rt; judged(&graph, &[]), Err((13, 4)));
-    assert_eq!(rt; judged(&graph, &[row(0, 0); 3]), Err((13, 4)));
-    assert_eq!(rt; judged(&graph, &[row(0, 0); 5]), Err((13, 4)));
+    for count in [0, 3, 5] {
+        assert_eq!(rt;
+            judged(&graph, &[row(0, 0); 5][..count]),
+            Err((13, 4)),
+            "{count} rows"
+        );
+    }
 }
 
 #[test]
 fn list_schedule_of_the_example(rt: HostRuntime) {
-    let graph = example();
-    match checked_list_schedule(&graph) {
-        Ok(list) => {
-            assert_eq!(rt; list.rows[0], row(0, 0));
-            assert_eq!(rt; list.rows[1], row(0, 2));
-            assert_eq!(rt; list.rows[2], row(1, 3));
-            assert_eq!(rt; list.rows[3], row(0, 7));
-            assert_eq!(rt; list.makespan, 9);
-        }
-        Err(_) => assert!(rt; false, "the check passes the list schedule"),
-    }
+    let mut rows = [row(0, 0); 32];
+    rows[1] = row(0, 2);
+    rows[2] = row(1, 3);
+    rows[3] = row(0, 7);
+    assert_eq!(rt;
+        checked_list_schedule(&example_on(2)),
+        Ok(CheckedSchedule { rows, makespan: 9 })
+    );
 }

@@ -1,202 +1,206 @@
-use crate::files::{EXAMPLE, RunFile, Told, told};
+use crate::example::{EXAMPLE, example_on};
+use crate::parts::{Part, run_file};
+use Part::{End, Head, Number, Pairs, Tasks, Transfer, Zeros};
 use loader::graph::TaskGraph;
 use loader::load::load;
 use refusal::refusal::Refusal;
-use std::alloc::Global;
 use std::test::Fail;
 
-// A file of equal tasks on one machine, ended.
-fn plain(heap: Global, tasks: u16, machines: u16, work: u16) -> Result<Told, Fail> {
-    let mut file = RunFile::new(heap, tasks, machines)?;
-    file.tasks(tasks, work)?;
-    file.end()?;
-    Ok(file.told())
+// How a file is told: the number of tasks where it is read, else the number and the place of the refusal.
+type Told = Result<usize, (u8, usize)>;
+
+fn told(bytes: &[u8]) -> Told {
+    let mut graph = TaskGraph::new();
+    match load(&mut graph, bytes) {
+        Ok(()) => Ok(graph.tasks()),
+        Err(e) => {
+            let refusal = Refusal::from(e);
+            Err((refusal.number, refusal.place))
+        }
+    }
 }
 
-// Two tasks and one transfer.
-fn single(heap: Global, from: u16, to: u16, cost: u16) -> Result<Told, Fail> {
-    let mut file = RunFile::new(heap, 2, 1)?;
-    file.tasks(2, 1)?;
-    file.record(3, &[from, to, cost])?;
-    file.end()?;
-    Ok(file.told())
-}
-
-// Tasks, machines and work; then how the file is told.
-const COUNTS: [(u16, u16, u16, Told); 8] = [
-    (31, 8, 1, Ok(31)),
-    (32, 1, 1000, Ok(32)),
-    (33, 1, 1, Err((4, 0))),
-    (0, 1, 1, Err((4, 0))),
-    (1, 9, 1, Err((4, 0))),
-    (1, 0, 1, Err((4, 0))),
-    (2, 1, 1001, Err((4, 8))),
-    (2, 1, 0, Err((4, 8))),
+// Numbers in range.
+const COUNTS: [(&[Part], Told); 8] = [
+    (&[Head(31, 8), Tasks(31, 1), End], Ok(31)),
+    (&[Head(32, 1), Tasks(32, 1000), End], Ok(32)),
+    (&[Head(33, 1), Tasks(33, 1), End], Err((4, 0))),
+    (&[Head(0, 1), End], Err((4, 0))),
+    (&[Head(1, 9), Tasks(1, 1), End], Err((4, 0))),
+    (&[Head(1, 0), Tasks(1, 1), End], Err((4, 0))),
+    (&[Head(2, 1), Tasks(2, 1001), End], Err((4, 8))),
+    (&[Head(2, 1), Tasks(2, 0), End], Err((4, 8))),
 ];
 
-#[test]
-fn numbers_in_range(rt: HostRuntime) -> Result<(), Fail> {
-    for (tasks, machines, work, wanted) in COUNTS {
-        assert_eq!(rt; plain(rt.alloc(), tasks, machines, work)?, wanted);
-    }
-    Ok(())
-}
-
-// From, to and cost; then how the file is told.
-const TRANSFERS: [(u16, u16, u16, Told); 5] = [
-    (1, 0, 1000, Ok(2)),
-    (0, 1, 1001, Err((4, 20))),
-    (0, 2, 0, Err((4, 20))),
-    (2, 0, 0, Err((4, 20))),
-    (1, 1, 0, Err((4, 20))),
+const TRANSFERS: [(&[Part], Told); 6] = [
+    (&[Head(2, 1), Tasks(2, 1), Transfer(1, 0, 1000), End], Ok(2)),
+    (
+        &[Head(2, 1), Tasks(2, 1), Transfer(0, 1, 1001), End],
+        Err((4, 20)),
+    ),
+    (
+        &[Head(2, 1), Tasks(2, 1), Transfer(0, 2, 0), End],
+        Err((4, 20)),
+    ),
+    (
+        &[Head(2, 1), Tasks(2, 1), Transfer(2, 0, 0), End],
+        Err((4, 20)),
+    ),
+    (
+        &[Head(2, 1), Tasks(2, 1), Transfer(1, 1, 0), End],
+        Err((4, 20)),
+    ),
+    // Tasks 0 and 1 only lead into and out of the cycle.
+    (
+        &[
+            Head(5, 1),
+            Tasks(5, 1),
+            Transfer(0, 2, 0),
+            Transfer(2, 4, 0),
+            Transfer(4, 3, 0),
+            Transfer(3, 2, 0),
+            Transfer(3, 1, 0),
+            End,
+        ],
+        Err((8, 20)),
+    ),
 ];
 
-#[test]
-fn transfers_in_range(rt: HostRuntime) -> Result<(), Fail> {
-    for (from, to, cost, wanted) in TRANSFERS {
-        assert_eq!(rt; single(rt.alloc(), from, to, cost)?, wanted);
-    }
-    Ok(())
-}
-
-// So many pairs of 32 tasks, then one more transfer.
-fn crowded(heap: Global, count: usize, last: [u16; 3]) -> Result<Told, Fail> {
-    let mut file = RunFile::new(heap, 32, 1)?;
-    file.tasks(32, 1)?;
-    file.pairs(count)?;
-    file.record(3, &last)?;
-    file.end()?;
-    Ok(file.told())
-}
-
-// How many pairs come first, and the last transfer; then how the file is told. At the 129th transfer the range
-// is tested before the number of transfers, and that before the pair.
-const CROWDS: [(usize, [u16; 3], Told); 5] = [
-    (127, [30, 31, 0], Ok(32)),
-    (128, [30, 31, 0], Err((5, 1480))),
-    (128, [30, 32, 0], Err((4, 1480))),
-    (128, [0, 1, 0], Err((5, 1480))),
-    (127, [0, 1, 7], Err((6, 1470))),
+// At the 129th transfer the range is tested before the number of transfers, and that before the pair.
+const CROWDS: [(&[Part], Told); 5] = [
+    (
+        &[
+            Head(32, 1),
+            Tasks(32, 1),
+            Pairs(127),
+            Transfer(30, 31, 0),
+            End,
+        ],
+        Ok(32),
+    ),
+    (
+        &[
+            Head(32, 1),
+            Tasks(32, 1),
+            Pairs(128),
+            Transfer(30, 31, 0),
+            End,
+        ],
+        Err((5, 1480)),
+    ),
+    (
+        &[
+            Head(32, 1),
+            Tasks(32, 1),
+            Pairs(128),
+            Transfer(30, 32, 0),
+            End,
+        ],
+        Err((4, 1480)),
+    ),
+    (
+        &[
+            Head(32, 1),
+            Tasks(32, 1),
+            Pairs(128),
+            Transfer(0, 1, 0),
+            End,
+        ],
+        Err((5, 1480)),
+    ),
+    (
+        &[
+            Head(32, 1),
+            Tasks(32, 1),
+            Pairs(127),
+            Transfer(0, 1, 7),
+            End,
+        ],
+        Err((6, 1470)),
+    ),
 ];
 
-#[test]
-fn many_transfers(rt: HostRuntime) -> Result<(), Fail> {
-    for (count, last, wanted) in CROWDS {
-        assert_eq!(rt; crowded(rt.alloc(), count, last)?, wanted);
-    }
-    Ok(())
-}
-
-#[test]
-fn records_due(rt: HostRuntime) -> Result<(), Fail> {
-    let heap = rt.alloc();
-    let mut early = RunFile::new(heap, 2, 1)?;
-    early.record(2, &[1])?;
-    early.record(3, &[0, 1, 0])?;
-    assert_eq!(rt; early.told(), Err((2, 14)));
-    let mut late = RunFile::new(heap, 1, 1)?;
-    late.tasks(2, 1)?;
-    assert_eq!(rt; late.told(), Err((2, 14)));
-    let mut long = RunFile::new(heap, 1, 1)?;
-    long.record(2, &[1, 1])?;
-    assert_eq!(rt; long.told(), Err((3, 8)));
-    let mut ended = RunFile::new(heap, 1, 1)?;
-    ended.tasks(1, 1)?;
-    ended.record(4, &[1])?;
-    assert_eq!(rt; ended.told(), Err((3, 14)));
-    let mut tail = RunFile::new(heap, 1, 1)?;
-    tail.tasks(1, 1)?;
-    tail.end()?;
-    tail.push(0)?;
-    assert_eq!(rt; tail.told(), Err((7, 18)));
-    Ok(())
-}
-
-#[test]
-fn long_payloads(rt: HostRuntime) -> Result<(), Fail> {
-    let mut file = RunFile::new(rt.alloc(), 1, 1)?;
-    file.number(65535)?;
-    file.number(9)?;
-    assert_eq!(rt;
-        file.told(),
-        Err((1, 8)),
-        "a payload past the end is found before the kind"
-    );
-    for _ in 0..65535 {
-        file.push(0)?;
-    }
-    assert_eq!(rt;
-        file.told(),
+// Records that are not the one due, and what follows the last one.
+const RECORDS: [(&[Part], Told); 7] = [
+    (&[Head(2, 1), Tasks(1, 1), Transfer(0, 1, 0)], Err((2, 14))),
+    (&[Head(1, 1), Tasks(2, 1)], Err((2, 14))),
+    (
+        &[Head(1, 1), Number(4), Number(2), Number(1), Number(1)],
+        Err((3, 8)),
+    ),
+    (
+        &[Head(1, 1), Tasks(1, 1), Number(2), Number(4), Number(1)],
+        Err((3, 14)),
+    ),
+    (&[Head(1, 1), Tasks(1, 1), End, Zeros(1)], Err((7, 18))),
+    // A payload past the end is found before the kind.
+    (&[Head(1, 1), Number(65535), Number(9)], Err((1, 8))),
+    // A whole record of an unknown kind.
+    (
+        &[Head(1, 1), Number(65535), Number(9), Zeros(65535)],
         Err((2, 8)),
-        "a whole record of an unknown kind"
-    );
+    ),
+];
+
+#[test]
+fn files_told(rt: HostRuntime) -> Result<(), Fail> {
+    let tables: [&[(&[Part], Told)]; 4] = [&COUNTS, &TRANSFERS, &CROWDS, &RECORDS];
+    for (parts, wanted) in tables.into_iter().flatten() {
+        assert_eq!(rt; told(&run_file(rt.alloc(), parts)?), *wanted);
+    }
     Ok(())
 }
 
-// The greatest of the example's record starts that is not above k.
-fn record_start(k: usize) -> usize {
-    const STARTS: [usize; 9] = [8, 14, 20, 26, 32, 42, 52, 62, 72];
-    STARTS
-        .iter()
-        .copied()
-        .take_while(|&s| s <= k)
-        .last()
-        .unwrap_or(0)
-}
+// Where each of the example's records begins, and where it ends.
+const PLACES: [(usize, usize); 10] = [
+    (0, 8),
+    (8, 14),
+    (14, 20),
+    (20, 26),
+    (26, 32),
+    (32, 42),
+    (42, 52),
+    (52, 62),
+    (62, 72),
+    (72, 76),
+];
 
 #[test]
 fn truncated_example(rt: HostRuntime) {
-    let file: &[u8] = EXAMPLE;
-    for k in 0..file.len() {
-        assert_eq!(rt; told(&file[0..k]), Err((1, record_start(k))));
+    for (start, end) in PLACES {
+        for size in start..end {
+            assert_eq!(rt;
+                EXAMPLE.get(..size).map(told),
+                Some(Err((1, start))),
+                "{size} bytes"
+            );
+        }
     }
     assert_eq!(rt; told(EXAMPLE), Ok(4));
 }
 
 #[test]
-fn cycles(rt: HostRuntime) -> Result<(), Fail> {
-    let mut file = RunFile::new(rt.alloc(), 5, 1)?;
-    file.tasks(5, 1)?;
-    file.record(3, &[0, 2, 0])?;
-    file.record(3, &[2, 4, 0])?;
-    file.record(3, &[4, 3, 0])?;
-    file.record(3, &[3, 2, 0])?;
-    file.record(3, &[3, 1, 0])?;
-    file.end()?;
-    assert_eq!(rt;
-        file.told(),
-        Err((8, 20)),
-        "tasks 0 and 1 only lead into and out of the cycle"
+fn refused_files_leave_the_graph(rt: HostRuntime) -> Result<(), Fail> {
+    let mut graph = example_on(2);
+    let file = run_file(rt.alloc(), &[Head(3, 1), Tasks(2, 1)])?;
+    assert!(rt; load(&mut graph, &file).is_err());
+    let kept = (
+        graph.tasks(),
+        graph.machines(),
+        graph.works(),
+        graph.bottom_levels(),
+        graph.transfers().len(),
     );
+    assert!(rt; kept == (4, 2, [2, 3, 3, 2].as_slice(), [7, 5, 5, 2].as_slice(), 4));
     Ok(())
 }
 
 #[test]
 fn refusals_as_text(rt: HostRuntime) -> Result<(), Fail> {
-    let mut graph = TaskGraph::new();
-    match load(&mut graph, &[]) {
-        Ok(()) => assert!(rt; false, "an empty file is refused"),
-        Err(e) => {
-            assert_eq!(rt;
-                Refusal::from(e).to_string(rt.alloc())?.as_str(),
-                "refused 1 at 0 in bytes"
-            );
-        }
-    }
-    Ok(())
-}
-
-#[test]
-fn refused_files_leave_the_graph(rt: HostRuntime) -> Result<(), Fail> {
-    let mut graph = TaskGraph::new();
-    let _ = load(&mut graph, EXAMPLE);
-    let mut file = RunFile::new(rt.alloc(), 3, 1)?;
-    file.tasks(2, 1)?;
-    assert!(rt; load(&mut graph, file.bytes()).is_err());
-    assert_eq!(rt; graph.tasks(), 4);
-    assert_eq!(rt; graph.machines(), 2);
-    assert!(rt; graph.works() == [2, 3, 3, 2].as_slice());
-    assert!(rt; graph.bottom_levels() == [7, 5, 5, 2].as_slice());
-    assert_eq!(rt; graph.transfers().len(), 4);
+    let fault = load(&mut TaskGraph::new(), &[])
+        .err()
+        .ok_or("an empty file is refused")?;
+    let text = Refusal::from(fault).to_string(rt.alloc())?;
+    assert_eq!(rt; text.as_str(), "refused 1 at 0 in bytes");
     Ok(())
 }

@@ -1,84 +1,83 @@
-use crate::files::{RunFile, example};
+use crate::example::example_on;
+use crate::parts::{Part, run_file};
+use crate::places::{Places, placed};
 use loader::graph::TaskGraph;
 use loader::load::load;
-use partial::partial::PartialSchedule;
-use partial::placement::Placement;
 use schedule::list::list_schedule;
 use std::test::Fail;
 
-fn at(machine: u8, start: u32) -> Option<Placement> {
-    Some(Placement { machine, start })
-}
+// Where tasks are placed, a task and a machine to append it on, and where tasks are placed then.
+const APPENDS: [(Places, usize, u8, Option<Places>); 8] = [
+    // Its predecessor is not placed.
+    ([None, None, None, None], 1, 0, None),
+    // There is no such task, no such machine.
+    ([None, None, None, None], 4, 0, None),
+    ([None, None, None, None], 0, 2, None),
+    (
+        [None, None, None, None],
+        0,
+        1,
+        Some([Some((1, 0)), None, None, None]),
+    ),
+    // It is placed already.
+    ([Some((1, 0)), None, None, None], 0, 0, None),
+    (
+        [Some((1, 0)), None, None, None],
+        2,
+        0,
+        Some([Some((1, 0)), None, Some((0, 3)), None]),
+    ),
+    // 32 bits hold the start on machine 0, and not on machine 1.
+    (
+        [Some((0, 4294967293)), None, None, None],
+        1,
+        0,
+        Some([Some((0, 4294967293)), Some((0, 4294967295)), None, None]),
+    ),
+    ([Some((0, 4294967293)), None, None, None], 1, 1, None),
+];
 
 #[test]
 fn only_free_tasks_are_appended(rt: HostRuntime) {
-    let graph = example();
-    let empty = PartialSchedule::empty();
-    assert!(rt;
-        empty.append(&graph, 1, 0).is_none(),
-        "its predecessor is not placed"
-    );
-    assert!(rt; empty.append(&graph, 4, 0).is_none(), "no such task");
-    assert!(rt; empty.append(&graph, 0, 2).is_none(), "no such machine");
-    let Some(one) = empty.append(&graph, 0, 1) else {
-        return assert!(rt; false, "task 0 is free");
-    };
-    assert_eq!(rt; one.placement(0), at(1, 0));
-    assert!(rt; one.append(&graph, 0, 0).is_none(), "it is placed already");
-    let Some(two) = one.append(&graph, 2, 0) else {
-        return assert!(rt; false, "task 2 is free");
-    };
-    assert_eq!(rt; two.placement(2), at(0, 3));
-    assert_eq!(rt; two.machine_finish(&graph, 0), 6);
-    assert_eq!(rt; two.data_ready(&graph, 1, 1), 2);
-    assert_eq!(rt; two.data_ready(&graph, 1, 0), 3);
-    assert_eq!(rt; two.start_on(&graph, 1, 0), 6);
+    let graph = example_on(2);
+    for (places, task, machine, wanted) in APPENDS {
+        assert_eq!(rt;
+            placed(places).append(&graph, task, machine),
+            wanted.map(placed)
+        );
+    }
 }
 
 #[test]
-fn large_starts_are_kept_or_refused(rt: HostRuntime) {
-    let graph = example();
-    let mut places = [None; 32];
-    places[0] = at(0, 4294967293);
-    let late = PartialSchedule::from(places);
-    let Some(same) = late.append(&graph, 1, 0) else {
-        return assert!(rt; false, "32 bits hold the start");
-    };
-    assert_eq!(rt; same.placement(1), at(0, 4294967295));
-    assert!(rt;
-        late.append(&graph, 1, 1).is_none(),
-        "32 bits do not hold the start"
-    );
-}
-
-#[test]
-fn machines_are_renamed(rt: HostRuntime) {
-    let graph = example();
-    let mut places = [None; 32];
-    places[0] = at(1, 0);
-    places[1] = at(0, 3);
-    places[2] = at(1, 2);
-    let normal = PartialSchedule::from(places).normal_form(&graph);
-    assert_eq!(rt; normal.placement(0), at(0, 0));
-    assert_eq!(rt; normal.placement(1), at(1, 3));
-    assert_eq!(rt; normal.placement(2), at(0, 2));
-    assert_eq!(rt; normal.placement(3), None);
+fn measures_and_names(rt: HostRuntime) {
+    let graph = example_on(2);
+    let two = placed([Some((1, 0)), None, Some((0, 3)), None]);
+    let measures = [
+        two.machine_finish(&graph, 0),
+        two.data_ready(&graph, 1, 1),
+        two.data_ready(&graph, 1, 0),
+        two.start_on(&graph, 1, 0),
+    ];
+    assert_eq!(rt; measures, [6, 2, 3, 6]);
+    let swapped = placed([Some((1, 0)), Some((0, 3)), Some((1, 2)), None]);
+    let renamed = placed([Some((0, 0)), Some((1, 3)), Some((0, 2)), None]);
+    assert_eq!(rt; swapped.normal_form(&graph), renamed);
 }
 
 // The machine among equals is the lowest by the names of that moment: task 2 ties between machines 0 and 1.
 #[test]
 fn the_lowest_machine_is_named_anew_each_time(rt: HostRuntime) -> Result<(), Fail> {
-    let mut file = RunFile::new(rt.alloc(), 3, 3)?;
-    file.record(2, &[1])?;
-    file.record(2, &[4])?;
-    file.record(2, &[1])?;
-    file.record(3, &[1, 2, 0])?;
-    file.end()?;
+    let parts = [
+        Part::Head(3, 3),
+        Part::Tasks(1, 1),
+        Part::Tasks(1, 4),
+        Part::Tasks(1, 1),
+        Part::Transfer(1, 2, 0),
+        Part::End,
+    ];
     let mut graph = TaskGraph::new();
-    assert!(rt; load(&mut graph, file.bytes()).is_ok());
-    let list = list_schedule(&graph);
-    assert_eq!(rt; list.placement(0), at(0, 0));
-    assert_eq!(rt; list.placement(1), at(1, 0));
-    assert_eq!(rt; list.placement(2), at(0, 4));
+    assert!(rt; load(&mut graph, &run_file(rt.alloc(), &parts)?).is_ok());
+    let wanted = placed([Some((0, 0)), Some((1, 0)), Some((0, 4)), None]);
+    assert_eq!(rt; list_schedule(&graph), wanted);
     Ok(())
 }
