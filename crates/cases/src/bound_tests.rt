@@ -76,22 +76,22 @@ const CASES: [(u8, Places, [u64; 3]); 12] = [
 
 #[test]
 fn each_rule_alone(rt: HostRuntime) {
-    for (machines, places, wanted) in CASES {
-        let graph = example_on(machines);
+    for (machines, places, wanted) in &CASES {
+        let graph = example_on(*machines);
         let tasks = placed(places);
         let told = [
             PathBound.bound(&graph, &tasks),
             LoadBound.bound(&graph, &tasks),
             ArrivalBound.bound(&graph, &tasks),
         ];
-        assert_eq!(rt; told, wanted);
+        assert_eq!(rt; told, *wanted);
     }
 }
 
 #[test]
 fn rules_joined(rt: HostRuntime) {
     let graph = example_on(2);
-    let late = placed([Some((0, 60000)), None, None, None]);
+    let late = placed(&[Some((0, 60000)), None, None, None]);
     let both = LargerOf {
         first: PathBound,
         second: LoadBound,

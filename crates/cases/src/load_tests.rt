@@ -1,10 +1,10 @@
 use crate::example::{EXAMPLE, example_on};
 use crate::parts::{Part, run_file};
-use Part::{End, Head, Number, Pairs, Tasks, Transfer, Zeros};
+use Part::{End, Fan, Head, Number, Tasks, Transfer, Zeros};
 use loader::graph::TaskGraph;
 use loader::load::load;
 use refusal::refusal::Refusal;
-use std::test::Fail;
+use std::alloc::{AllocError, Global};
 
 // How a file is told: the number of tasks where it is read, else the number and the place of the refusal.
 type Told = Result<usize, (u8, usize)>;
@@ -20,8 +20,9 @@ fn told(bytes: &[u8]) -> Told {
     }
 }
 
-// Numbers in range.
-const COUNTS: [(&[Part], Told); 8] = [
+// The parts of a file, and how it is told.
+const CASES: [(&[Part], Told); 26] = [
+    // Numbers in range.
     (&[Head(31, 8), Tasks(31, 1), End], Ok(31)),
     (&[Head(32, 1), Tasks(32, 1000), End], Ok(32)),
     (&[Head(33, 1), Tasks(33, 1), End], Err((4, 0))),
@@ -30,9 +31,6 @@ const COUNTS: [(&[Part], Told); 8] = [
     (&[Head(1, 0), Tasks(1, 1), End], Err((4, 0))),
     (&[Head(2, 1), Tasks(2, 1001), End], Err((4, 8))),
     (&[Head(2, 1), Tasks(2, 0), End], Err((4, 8))),
-];
-
-const TRANSFERS: [(&[Part], Told); 6] = [
     (&[Head(2, 1), Tasks(2, 1), Transfer(1, 0, 1000), End], Ok(2)),
     (
         &[Head(2, 1), Tasks(2, 1), Transfer(0, 1, 1001), End],
@@ -64,15 +62,16 @@ const TRANSFERS: [(&[Part], Told); 6] = [
         ],
         Err((8, 20)),
     ),
-];
-
-// At the 129th transfer the range is tested before the number of transfers, and that before the pair.
-const CROWDS: [(&[Part], Told); 5] = [
+    // At the 129th transfer the range is tested before the number of transfers, and that before the pair.
     (
         &[
             Head(32, 1),
             Tasks(32, 1),
-            Pairs(127),
+            Fan(0, 1, 32),
+            Fan(1, 2, 32),
+            Fan(2, 3, 32),
+            Fan(3, 4, 32),
+            Fan(4, 5, 14),
             Transfer(30, 31, 0),
             End,
         ],
@@ -82,7 +81,11 @@ const CROWDS: [(&[Part], Told); 5] = [
         &[
             Head(32, 1),
             Tasks(32, 1),
-            Pairs(128),
+            Fan(0, 1, 32),
+            Fan(1, 2, 32),
+            Fan(2, 3, 32),
+            Fan(3, 4, 32),
+            Fan(4, 5, 15),
             Transfer(30, 31, 0),
             End,
         ],
@@ -92,7 +95,11 @@ const CROWDS: [(&[Part], Told); 5] = [
         &[
             Head(32, 1),
             Tasks(32, 1),
-            Pairs(128),
+            Fan(0, 1, 32),
+            Fan(1, 2, 32),
+            Fan(2, 3, 32),
+            Fan(3, 4, 32),
+            Fan(4, 5, 15),
             Transfer(30, 32, 0),
             End,
         ],
@@ -102,7 +109,11 @@ const CROWDS: [(&[Part], Told); 5] = [
         &[
             Head(32, 1),
             Tasks(32, 1),
-            Pairs(128),
+            Fan(0, 1, 32),
+            Fan(1, 2, 32),
+            Fan(2, 3, 32),
+            Fan(3, 4, 32),
+            Fan(4, 5, 15),
             Transfer(0, 1, 0),
             End,
         ],
@@ -112,16 +123,17 @@ const CROWDS: [(&[Part], Told); 5] = [
         &[
             Head(32, 1),
             Tasks(32, 1),
-            Pairs(127),
+            Fan(0, 1, 32),
+            Fan(1, 2, 32),
+            Fan(2, 3, 32),
+            Fan(3, 4, 32),
+            Fan(4, 5, 14),
             Transfer(0, 1, 7),
             End,
         ],
         Err((6, 1470)),
     ),
-];
-
-// Records that are not the one due, and what follows the last one.
-const RECORDS: [(&[Part], Told); 7] = [
+    // Records that are not the one due, and what follows the last one.
     (&[Head(2, 1), Tasks(1, 1), Transfer(0, 1, 0)], Err((2, 14))),
     (&[Head(1, 1), Tasks(2, 1)], Err((2, 14))),
     (
@@ -142,48 +154,41 @@ const RECORDS: [(&[Part], Told); 7] = [
     ),
 ];
 
-#[test]
-fn files_told(rt: HostRuntime) -> Result<(), Fail> {
-    let tables: [&[(&[Part], Told)]; 4] = [&COUNTS, &TRANSFERS, &CROWDS, &RECORDS];
-    for (parts, wanted) in tables.into_iter().flatten() {
-        assert_eq!(rt; told(&run_file(rt.alloc(), parts)?), *wanted);
-    }
-    Ok(())
+fn parts_told(heap: Global, parts: &[Part]) -> Result<Told, AllocError> {
+    Ok(told(&run_file(heap, parts)?))
 }
 
-// Where each of the example's records begins, and where it ends.
-const PLACES: [(usize, usize); 10] = [
-    (0, 8),
-    (8, 14),
-    (14, 20),
-    (20, 26),
-    (26, 32),
-    (32, 42),
-    (42, 52),
-    (52, 62),
-    (62, 72),
-    (72, 76),
-];
+#[test]
+fn files_told(rt: HostRuntime) {
+    for (parts, wanted) in &CASES {
+        assert_eq!(rt; parts_told(rt.alloc(), parts), Ok(*wanted));
+    }
+}
+
+// Where the example's records begin.
+const STARTS: [usize; 10] = [0, 8, 14, 20, 26, 32, 42, 52, 62, 72];
 
 #[test]
 fn truncated_example(rt: HostRuntime) {
-    for (start, end) in PLACES {
-        for size in start..end {
-            assert_eq!(rt;
-                EXAMPLE.get(..size).map(told),
-                Some(Err((1, start))),
-                "{size} bytes"
-            );
+    let mut start = 0;
+    for size in 0..EXAMPLE.len() {
+        if STARTS.contains(&size) {
+            start = size;
         }
+        assert_eq!(rt; told(&EXAMPLE[..size]), Err((1, start)));
     }
     assert_eq!(rt; told(EXAMPLE), Ok(4));
 }
 
+// Three tasks are to come, and the file ends after two.
+const SHORT: &[u8; 20] = b"\x04\x00\x01\x00\x03\x00\x01\x00\
+    \x02\x00\x02\x00\x01\x00\
+    \x02\x00\x02\x00\x01\x00";
+
 #[test]
-fn refused_files_leave_the_graph(rt: HostRuntime) -> Result<(), Fail> {
+fn refused_files_leave_the_graph(rt: HostRuntime) {
     let mut graph = example_on(2);
-    let file = run_file(rt.alloc(), &[Head(3, 1), Tasks(2, 1)])?;
-    assert!(rt; load(&mut graph, &file).is_err());
+    assert!(rt; load(&mut graph, SHORT).is_err());
     let kept = (
         graph.tasks(),
         graph.machines(),
@@ -191,16 +196,15 @@ fn refused_files_leave_the_graph(rt: HostRuntime) -> Result<(), Fail> {
         graph.bottom_levels(),
         graph.transfers().len(),
     );
-    assert!(rt; kept == (4, 2, [2, 3, 3, 2].as_slice(), [7, 5, 5, 2].as_slice(), 4));
-    Ok(())
+    let wanted = (4, 2, [2, 3, 3, 2].as_slice(), [7, 5, 5, 2].as_slice(), 4);
+    assert!(rt; kept == wanted);
 }
 
 #[test]
-fn refusals_as_text(rt: HostRuntime) -> Result<(), Fail> {
-    let fault = load(&mut TaskGraph::new(), &[])
-        .err()
-        .ok_or("an empty file is refused")?;
-    let text = Refusal::from(fault).to_string(rt.alloc())?;
+fn refusals_as_text(rt: HostRuntime) {
+    let fault = load(&mut TaskGraph::new(), &[]).expect_err(&rt, "an empty file is refused");
+    let text = Refusal::from(fault)
+        .to_string(rt.alloc())
+        .expect(&rt, "memory");
     assert_eq!(rt; text.as_str(), "refused 1 at 0 in bytes");
-    Ok(())
 }

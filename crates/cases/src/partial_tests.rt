@@ -1,10 +1,8 @@
 use crate::example::example_on;
-use crate::parts::{Part, run_file};
 use crate::places::{Places, placed};
 use loader::graph::TaskGraph;
 use loader::load::load;
 use schedule::list::list_schedule;
-use std::test::Fail;
 
 // Where tasks are placed, a task and a machine to append it on, and where tasks are placed then.
 const APPENDS: [(Places, usize, u8, Option<Places>); 8] = [
@@ -40,44 +38,47 @@ const APPENDS: [(Places, usize, u8, Option<Places>); 8] = [
 #[test]
 fn only_free_tasks_are_appended(rt: HostRuntime) {
     let graph = example_on(2);
-    for (places, task, machine, wanted) in APPENDS {
+    for (places, task, machine, wanted) in &APPENDS {
         assert_eq!(rt;
-            placed(places).append(&graph, task, machine),
-            wanted.map(placed)
+            placed(places).append(&graph, *task, *machine),
+            wanted.as_ref().map(placed)
         );
     }
 }
 
 #[test]
-fn measures_and_names(rt: HostRuntime) {
+fn measures(rt: HostRuntime) {
     let graph = example_on(2);
-    let two = placed([Some((1, 0)), None, Some((0, 3)), None]);
-    let measures = [
+    let two = placed(&[Some((1, 0)), None, Some((0, 3)), None]);
+    let told = [
         two.machine_finish(&graph, 0),
         two.data_ready(&graph, 1, 1),
         two.data_ready(&graph, 1, 0),
         two.start_on(&graph, 1, 0),
     ];
-    assert_eq!(rt; measures, [6, 2, 3, 6]);
-    let swapped = placed([Some((1, 0)), Some((0, 3)), Some((1, 2)), None]);
-    let renamed = placed([Some((0, 0)), Some((1, 3)), Some((0, 2)), None]);
-    assert_eq!(rt; swapped.normal_form(&graph), renamed);
+    assert_eq!(rt; told, [6, 2, 3, 6]);
 }
+
+#[test]
+fn machines_are_renamed(rt: HostRuntime) {
+    let swapped = placed(&[Some((1, 0)), Some((0, 3)), Some((1, 2)), None]);
+    let renamed = placed(&[Some((0, 0)), Some((1, 3)), Some((0, 2)), None]);
+    assert_eq!(rt; swapped.normal_form(&example_on(2)), renamed);
+}
+
+// Three tasks on three machines; the second leads to the third.
+const THREE_TASKS: &[u8; 40] = b"\x04\x00\x01\x00\x03\x00\x03\x00\
+    \x02\x00\x02\x00\x01\x00\
+    \x02\x00\x02\x00\x04\x00\
+    \x02\x00\x02\x00\x01\x00\
+    \x06\x00\x03\x00\x01\x00\x02\x00\x00\x00\
+    \x00\x00\x04\x00";
 
 // The machine among equals is the lowest by the names of that moment: task 2 ties between machines 0 and 1.
 #[test]
-fn the_lowest_machine_is_named_anew_each_time(rt: HostRuntime) -> Result<(), Fail> {
-    let parts = [
-        Part::Head(3, 3),
-        Part::Tasks(1, 1),
-        Part::Tasks(1, 4),
-        Part::Tasks(1, 1),
-        Part::Transfer(1, 2, 0),
-        Part::End,
-    ];
+fn the_lowest_machine_is_named_anew_each_time(rt: HostRuntime) {
     let mut graph = TaskGraph::new();
-    assert!(rt; load(&mut graph, &run_file(rt.alloc(), &parts)?).is_ok());
-    let wanted = placed([Some((0, 0)), Some((1, 0)), Some((0, 4)), None]);
+    assert!(rt; load(&mut graph, THREE_TASKS).is_ok());
+    let wanted = placed(&[Some((0, 0)), Some((1, 0)), Some((0, 4)), None]);
     assert_eq!(rt; list_schedule(&graph), wanted);
-    Ok(())
 }

@@ -9,8 +9,8 @@ pub(crate) enum Part {
     Tasks(usize, u16),
     // From, to and cost.
     Transfer(u16, u16, u16),
-    // The first so many of the pairs of tasks below 32, each from a lower to a higher number, at no cost.
-    Pairs(usize),
+    // Transfers at no cost from the first task to each from the second on that is below the third.
+    Fan(u16, u16, u16),
     End,
     // A number by itself.
     Number(u16),
@@ -21,14 +21,6 @@ pub(crate) enum Part {
 fn add(bytes: &mut Vec<u8>, numbers: &[u16]) -> Result<(), AllocError> {
     for number in numbers {
         bytes.extend_from_slice(&number.to_le_bytes())?;
-    }
-    Ok(())
-}
-
-fn add_pairs(bytes: &mut Vec<u8>, count: usize) -> Result<(), AllocError> {
-    let pairs = (0..31u16).flat_map(|from| (from + 1..32).map(move |to| [6, 3, from, to, 0]));
-    for record in pairs.take(count) {
-        add(bytes, &record)?;
     }
     Ok(())
 }
@@ -44,7 +36,12 @@ impl Part {
                 Ok(())
             }
             Part::Transfer(from, to, cost) => add(bytes, &[6, 3, from, to, cost]),
-            Part::Pairs(count) => add_pairs(bytes, count),
+            Part::Fan(from, first, end) => {
+                for to in first..end {
+                    add(bytes, &[6, 3, from, to, 0])?;
+                }
+                Ok(())
+            }
             Part::End => add(bytes, &[0, 4]),
             Part::Number(x) => add(bytes, &[x]),
             Part::Zeros(count) => {
