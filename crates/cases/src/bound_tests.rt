@@ -1,5 +1,6 @@
 use crate::example::example_on;
 use crate::places::{Places, placed};
+use crate::same::same;
 use bounds::arrival_bound::ArrivalBound;
 use bounds::larger_of::LargerOf;
 use bounds::load_bound::LoadBound;
@@ -27,56 +28,44 @@ impl LowerBound for ZeroBound {
 const LATEST: u32 = 4294967295;
 
 // How many machines, where the example's tasks are placed, and the path, load and arrival bounds.
-const CASES: [(u8, Places, [u64; 3]); 12] = [
-    (2, [None, None, None, None], [7, 5, 7]),
-    (8, [None, None, None, None], [7, 2, 7]),
-    (2, [Some((0, 0)), None, None, None], [7, 5, 7]),
-    (2, [Some((0, 1)), None, None, None], [8, 6, 8]),
+const CASES: &[(u8, Places, [u64; 3])] = &[
+    (2, &[], [7, 5, 7]),
+    (8, &[], [7, 2, 7]),
+    (2, &[Some((0, 0))], [7, 5, 7]),
+    (2, &[Some((0, 1))], [8, 6, 8]),
+    (2, &[Some((0, 60000))], [60007, 30005, 60007]),
+    (1, &[Some((0, 60000))], [60007, 60010, 60007]),
+    (8, &[Some((7, 60001))], [60008, 7502, 60008]),
     (
         2,
-        [Some((0, 60000)), None, None, None],
-        [60007, 30005, 60007],
-    ),
-    (
-        1,
-        [Some((0, 60000)), None, None, None],
-        [60007, 60010, 60007],
-    ),
-    (
-        8,
-        [Some((7, 60001)), None, None, None],
-        [60008, 7502, 60008],
-    ),
-    (
-        2,
-        [Some((0, 0)), Some((1, 60000)), Some((0, 2)), None],
+        &[Some((0, 0)), Some((1, 60000)), Some((0, 2))],
         [60005, 30005, 60005],
     ),
     (
         1,
-        [Some((0, 60000)), Some((0, 60003)), None, None],
+        &[Some((0, 60000)), Some((0, 60003))],
         [60008, 60011, 60007],
     ),
     (
         2,
-        [Some((0, 0)), Some((1, 3)), Some((0, 2)), Some((1, 6))],
+        &[Some((0, 0)), Some((1, 3)), Some((0, 2)), Some((1, 6))],
         [8, 7, 0],
     ),
     (
         2,
-        [Some((0, 0)), Some((0, 0)), Some((0, 0)), Some((0, 0))],
+        &[Some((0, 0)), Some((0, 0)), Some((0, 0)), Some((0, 0))],
         [7, 5, 0],
     ),
     (
         2,
-        [Some((0, LATEST)), None, None, None],
+        &[Some((0, LATEST))],
         [4294967302, 2147483653, 4294967302],
     ),
 ];
 
 #[test]
 fn each_rule_alone(rt: HostRuntime) {
-    for (machines, places, wanted) in &CASES {
+    for (machines, places, wanted) in CASES {
         let graph = example_on(*machines);
         let tasks = placed(places);
         let told = [
@@ -84,14 +73,14 @@ fn each_rule_alone(rt: HostRuntime) {
             LoadBound.bound(&graph, &tasks),
             ArrivalBound.bound(&graph, &tasks),
         ];
-        assert_eq!(rt; told, *wanted);
+        same(&rt, &told, wanted);
     }
 }
 
 #[test]
 fn rules_joined(rt: HostRuntime) {
     let graph = example_on(2);
-    let late = placed(&[Some((0, 60000)), None, None, None]);
+    let late = placed(&[Some((0, 60000))]);
     let both = LargerOf {
         first: PathBound,
         second: LoadBound,
@@ -107,5 +96,5 @@ fn rules_joined(rt: HostRuntime) {
         ZeroBound.bound(&graph, &late),
         larger.bound(&graph, &late),
     ];
-    assert_eq!(rt; told, [7, 10, 0, 0, 60007]);
+    same(&rt, &told, &[7, 10, 0, 0, 60007]);
 }

@@ -16,4 +16,6 @@ mod partial_tests;
 mod parts;
 #[cfg(test)]
 mod places;
+#[cfg(test)]
+mod same;
 pub mod table;

@@ -1,5 +1,6 @@
 use crate::example::{EXAMPLE, example_on};
 use crate::parts::{Part, run_file};
+use crate::same::same;
 use Part::{End, Fan, Head, Number, Tasks, Transfer, Zeros};
 use loader::graph::TaskGraph;
 use loader::load::load;
@@ -21,7 +22,7 @@ fn told(bytes: &[u8]) -> Told {
 }
 
 // The parts of a file, and how it is told.
-const CASES: [(&[Part], Told); 26] = [
+const CASES: &[(&[Part], Told)] = &[
     // Numbers in range.
     (&[Head(31, 8), Tasks(31, 1), End], Ok(31)),
     (&[Head(32, 1), Tasks(32, 1000), End], Ok(32)),
@@ -160,8 +161,8 @@ fn parts_told(heap: Global, parts: &[Part]) -> Result<Told, AllocError> {
 
 #[test]
 fn files_told(rt: HostRuntime) {
-    for (parts, wanted) in &CASES {
-        assert_eq!(rt; parts_told(rt.alloc(), parts), Ok(*wanted));
+    for (parts, wanted) in CASES {
+        same(&rt, &parts_told(rt.alloc(), parts), &Ok(*wanted));
     }
 }
 
@@ -175,9 +176,9 @@ fn truncated_example(rt: HostRuntime) {
         if STARTS.contains(&size) {
             start = size;
         }
-        assert_eq!(rt; told(&EXAMPLE[..size]), Err((1, start)));
+        same(&rt, &told(&EXAMPLE[..size]), &Err((1, start)));
     }
-    assert_eq!(rt; told(EXAMPLE), Ok(4));
+    same(&rt, &told(EXAMPLE), &Ok(4));
 }
 
 // Three tasks are to come, and the file ends after two.
@@ -189,22 +190,19 @@ const SHORT: &[u8; 20] = b"\x04\x00\x01\x00\x03\x00\x01\x00\
 fn refused_files_leave_the_graph(rt: HostRuntime) {
     let mut graph = example_on(2);
     assert!(rt; load(&mut graph, SHORT).is_err());
-    let kept = (
-        graph.tasks(),
-        graph.machines(),
-        graph.works(),
-        graph.bottom_levels(),
-        graph.transfers().len(),
-    );
-    let wanted = (4, 2, [2, 3, 3, 2].as_slice(), [7, 5, 5, 2].as_slice(), 4);
-    assert!(rt; kept == wanted);
+    let sizes = [graph.tasks(), graph.machines(), graph.transfers().len()];
+    same(&rt, &sizes, &[4, 2, 4]);
+    same(&rt, &graph.works(), &[2, 3, 3, 2].as_slice());
+    same(&rt, &graph.bottom_levels(), &[7, 5, 5, 2].as_slice());
+}
+
+fn refusal_text(heap: Global, bytes: &[u8]) -> Option<String> {
+    let fault = load(&mut TaskGraph::new(), bytes).err()?;
+    Refusal::from(fault).to_string(heap).ok()
 }
 
 #[test]
 fn refusals_as_text(rt: HostRuntime) {
-    let fault = load(&mut TaskGraph::new(), &[]).expect_err(&rt, "an empty file is refused");
-    let text = Refusal::from(fault)
-        .to_string(rt.alloc())
-        .expect(&rt, "memory");
-    assert_eq!(rt; text.as_str(), "refused 1 at 0 in bytes");
+    let text = refusal_text(rt.alloc(), &[]);
+    assert!(rt; text.is_some_and(|text| text.as_str() == "refused 1 at 0 in bytes"));
 }

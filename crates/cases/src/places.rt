@@ -1,17 +1,17 @@
 use partial::partial::PartialSchedule;
 use partial::placement::Placement;
 
-// A machine and a start for each of the first four tasks that is placed.
-pub(crate) type Places = [Option<(u8, u32)>; 4];
+// A machine and a start for each of the first tasks that is placed.
+pub(crate) type Places = &'static [Option<(u8, u32)>];
 
-fn place((machine, start): (u8, u32)) -> Placement {
+pub(crate) fn place((machine, start): (u8, u32)) -> Placement {
     Placement { machine, start }
 }
 
-pub(crate) fn placed(tasks: &Places) -> PartialSchedule {
+pub(crate) fn placed(tasks: Places) -> PartialSchedule {
     let mut places = [None; 32];
-    for (t, task) in tasks.iter().enumerate() {
-        places[t] = task.map(place);
+    for (at, task) in places.iter_mut().zip(tasks) {
+        *at = task.map(place);
     }
     PartialSchedule::from(places)
 }
