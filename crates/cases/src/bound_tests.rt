@@ -77,10 +77,12 @@ fn each_rule_alone(rt: HostRuntime) {
     }
 }
 
+const LATE: Places = &[Some((0, 60000))];
+
 #[test]
 fn rules_joined(rt: HostRuntime) {
     let graph = example_on(2);
-    let late = placed(&[Some((0, 60000))]);
+    let late = placed(LATE);
     let both = LargerOf {
         first: PathBound,
         second: LoadBound,

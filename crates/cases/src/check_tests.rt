@@ -1,5 +1,5 @@
 use crate::example::example_on;
-use crate::places::{place, placed};
+use crate::places::{Places, place, placed};
 use crate::same::same;
 use loader::graph::TaskGraph;
 use refusal::refusal::Refusal;
@@ -50,11 +50,12 @@ fn rules_in_order(rt: HostRuntime) {
     }
 }
 
+const LISTED: Places = &[Some((0, 0)), Some((0, 2)), Some((1, 3)), Some((0, 7))];
+
 #[test]
 fn list_schedule_of_the_example(rt: HostRuntime) {
-    let tasks = placed(&[Some((0, 0)), Some((0, 2)), Some((1, 3)), Some((0, 7))]);
     let wanted = CheckedSchedule {
-        rows: rows(&tasks),
+        rows: rows(&placed(LISTED)),
         makespan: 9,
     };
     same(&rt, &checked_list_schedule(&example_on(2)), &Ok(wanted));

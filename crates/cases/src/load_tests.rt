@@ -1,7 +1,7 @@
 use crate::example::{EXAMPLE, example_on};
 use crate::parts::{Part, run_file};
 use crate::same::same;
-use Part::{End, Fan, Head, Number, Tasks, Transfer, Zeros};
+use Part::{Bytes, End, Fan, Head, Tasks, Transfer};
 use loader::graph::TaskGraph;
 use loader::load::load;
 use refusal::refusal::Refusal;
@@ -137,20 +137,17 @@ const CASES: &[(&[Part], Told)] = &[
     // Records that are not the one due, and what follows the last one.
     (&[Head(2, 1), Tasks(1, 1), Transfer(0, 1, 0)], Err((2, 14))),
     (&[Head(1, 1), Tasks(2, 1)], Err((2, 14))),
+    (&[Head(1, 1), Bytes(&[4, 0, 2, 0, 1, 0, 1, 0])], Err((3, 8))),
     (
-        &[Head(1, 1), Number(4), Number(2), Number(1), Number(1)],
-        Err((3, 8)),
-    ),
-    (
-        &[Head(1, 1), Tasks(1, 1), Number(2), Number(4), Number(1)],
+        &[Head(1, 1), Tasks(1, 1), Bytes(&[2, 0, 4, 0, 1, 0])],
         Err((3, 14)),
     ),
-    (&[Head(1, 1), Tasks(1, 1), End, Zeros(1)], Err((7, 18))),
+    (&[Head(1, 1), Tasks(1, 1), End, Bytes(&[0])], Err((7, 18))),
     // A payload past the end is found before the kind.
-    (&[Head(1, 1), Number(65535), Number(9)], Err((1, 8))),
+    (&[Head(1, 1), Bytes(&[255, 255, 9, 0])], Err((1, 8))),
     // A whole record of an unknown kind.
     (
-        &[Head(1, 1), Number(65535), Number(9), Zeros(65535)],
+        &[Head(1, 1), Bytes(&[255, 255, 9, 0]), Bytes(&[0; 65535])],
         Err((2, 8)),
     ),
 ];
@@ -190,10 +187,15 @@ const SHORT: &[u8; 20] = b"\x04\x00\x01\x00\x03\x00\x01\x00\
 fn refused_files_leave_the_graph(rt: HostRuntime) {
     let mut graph = example_on(2);
     assert!(rt; load(&mut graph, SHORT).is_err());
-    let sizes = [graph.tasks(), graph.machines(), graph.transfers().len()];
-    same(&rt, &sizes, &[4, 2, 4]);
-    same(&rt, &graph.works(), &[2, 3, 3, 2].as_slice());
-    same(&rt, &graph.bottom_levels(), &[7, 5, 5, 2].as_slice());
+    let kept = (
+        graph.tasks(),
+        graph.machines(),
+        graph.works(),
+        graph.bottom_levels(),
+        graph.transfers().len(),
+    );
+    let wanted = (4, 2, [2, 3, 3, 2].as_slice(), [7, 5, 5, 2].as_slice(), 4);
+    same(&rt, &kept, &wanted);
 }
 
 fn refusal_text(heap: Global, bytes: &[u8]) -> Option<String> {
@@ -203,6 +205,6 @@ fn refusal_text(heap: Global, bytes: &[u8]) -> Option<String> {
 
 #[test]
 fn refusals_as_text(rt: HostRuntime) {
-    let text = refusal_text(rt.alloc(), &[]);
-    assert!(rt; text.is_some_and(|text| text.as_str() == "refused 1 at 0 in bytes"));
+    let text = refusal_text(rt.alloc(), &[]).expect(&rt, "an empty file is refused");
+    same(&rt, &text.as_str(), &"refused 1 at 0 in bytes");
 }

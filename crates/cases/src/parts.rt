@@ -12,10 +12,8 @@ pub(crate) enum Part {
     // Transfers at no cost from the first task to each from the second on that is below the third.
     Fan(u16, u16, u16),
     End,
-    // A number by itself.
-    Number(u16),
-    // So many bytes 0.
-    Zeros(usize),
+    // What is no record of the format, or not the one that is due.
+    Bytes(&'static [u8]),
 }
 
 fn add(bytes: &mut Vec<u8>, numbers: &[u16]) -> Result<(), AllocError> {
@@ -43,13 +41,7 @@ impl Part {
                 Ok(())
             }
             Part::End => add(bytes, &[0, 4]),
-            Part::Number(x) => add(bytes, &[x]),
-            Part::Zeros(count) => {
-                for _ in 0..count {
-                    bytes.push(0)?;
-                }
-                Ok(())
-            }
+            Part::Bytes(more) => bytes.extend_from_slice(more),
         }
     }
 }
