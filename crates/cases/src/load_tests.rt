@@ -1,7 +1,7 @@
 use crate::example::{EXAMPLE, example_on};
 use crate::parts::{Part, run_file};
 use crate::same::same;
-use Part::{Bytes, End, Fan, Head, Tasks, Transfer};
+use Part::{End, Fan, Head, Tasks, Times, Transfer};
 use loader::graph::TaskGraph;
 use loader::load::load;
 use refusal::refusal::Refusal;
@@ -137,17 +137,23 @@ const CASES: &[(&[Part], Told)] = &[
     // Records that are not the one due, and what follows the last one.
     (&[Head(2, 1), Tasks(1, 1), Transfer(0, 1, 0)], Err((2, 14))),
     (&[Head(1, 1), Tasks(2, 1)], Err((2, 14))),
-    (&[Head(1, 1), Bytes(&[4, 0, 2, 0, 1, 0, 1, 0])], Err((3, 8))),
     (
-        &[Head(1, 1), Tasks(1, 1), Bytes(&[2, 0, 4, 0, 1, 0])],
+        &[Head(1, 1), Times(1, &[4, 0, 2, 0, 1, 0, 1, 0])],
+        Err((3, 8)),
+    ),
+    (
+        &[Head(1, 1), Tasks(1, 1), Times(1, &[2, 0, 4, 0, 1, 0])],
         Err((3, 14)),
     ),
-    (&[Head(1, 1), Tasks(1, 1), End, Bytes(&[0])], Err((7, 18))),
+    (
+        &[Head(1, 1), Tasks(1, 1), End, Times(1, &[0])],
+        Err((7, 18)),
+    ),
     // A payload past the end is found before the kind.
-    (&[Head(1, 1), Bytes(&[255, 255, 9, 0])], Err((1, 8))),
+    (&[Head(1, 1), Times(1, &[255, 255, 9, 0])], Err((1, 8))),
     // A whole record of an unknown kind.
     (
-        &[Head(1, 1), Bytes(&[255, 255, 9, 0]), Bytes(&[0; 65535])],
+        &[Head(1, 1), Times(1, &[255, 255, 9, 0]), Times(65535, &[0])],
         Err((2, 8)),
     ),
 ];

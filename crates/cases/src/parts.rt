@@ -12,8 +12,8 @@ pub(crate) enum Part {
     // Transfers at no cost from the first task to each from the second on that is below the third.
     Fan(u16, u16, u16),
     End,
-    // What is no record of the format, or not the one that is due.
-    Bytes(&'static [u8]),
+    // So many times the same bytes, for what is no record of the format.
+    Times(usize, &'static [u8]),
 }
 
 fn add(bytes: &mut Vec<u8>, numbers: &[u16]) -> Result<(), AllocError> {
@@ -41,7 +41,12 @@ impl Part {
                 Ok(())
             }
             Part::End => add(bytes, &[0, 4]),
-            Part::Bytes(more) => bytes.extend_from_slice(more),
+            Part::Times(count, more) => {
+                for _ in 0..count {
+                    bytes.extend_from_slice(more)?;
+                }
+                Ok(())
+            }
         }
     }
 }
