@@ -15,7 +15,7 @@ use Rattle.queue.specs.declared.entry.Entry.{Entry}
 use Rattle.astar.specs.States.{SearchState, used, best_length, best_schedule, expanded_node}
 use Rattle.astar.specs.Expansion.{visited_by, taken, expanded}
 use Rattle.astar.specs.Advance.{next_node}
-use Rattle.astar.specs.Invariant.{InUse, partial_at, Visited, Grown, Listed, Counted, Apart, All, Invariant, IsRight}
+use Rattle.astar.specs.Invariant.{InUse, partial_at, Visited, Grown, Listed, Counted, Distinct, All, Invariant, IsRight}
 use Rattle.astar.specs.Laws.{least_bound, floor, ExpansionKeeps}
 use Rattle.astar.proofs.Children.{chosen-reachable, chosen-tasks, chosen-under}
 use Rattle.astar.proofs.Visits.{expansion-visits}
@@ -23,7 +23,7 @@ use Rattle.astar.proofs.Growth.{BestNode, Onward, grown-onward}
 use Rattle.astar.proofs.Visiting.{Step, visit-step}
 use Rattle.astar.proofs.Listing.{listed-taken, listed-visit}
 use Rattle.astar.proofs.Counts.{counted-taken, counted-visit, size-visit, used-visit, low-visit}
-use Rattle.astar.proofs.Apart.{apart-on, apart-visit}
+use Rattle.astar.proofs.Distinct.{apart-on, apart-visit}
 use Rattle.astar.proofs.Floor.{floor-holds, best-feasible}
 
 -- A node is expanded: child by child.
@@ -37,7 +37,7 @@ pub record Going (g : Graph) (w : SearchState) (i y : ℕ) (done : List (ℕ × 
   pub grown : Grown g (DueOf i done) v
   pub listed : Listed v
   pub counted : Counted v
-  pub apart : Apart v
+  pub apart : Distinct v
   pub node : InUse v i
   pub partial : partial_at v i ≡ partial_at w i
   pub room : used v ≤ used w + length done

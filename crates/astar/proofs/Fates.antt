@@ -115,25 +115,27 @@ child-fates g b up w c e room = leaves g b up w c room e
 record Raised (w : SearchState) (es : List Fate) (v : SearchState) : Type 0 where
   generated : v.tally.generated ≡ w.tally.generated + length es
   expanded : v.tally.expanded ≡ w.tally.expanded
+  waiting : v.tally.waiting ≡ w.tally.waiting + count stored es
   stored : v.tally.stored ≡ w.tally.stored + count stored es
   duplicates : v.tally.duplicates ≡ w.tally.duplicates + count duplicate es
   pruned : v.tally.pruned ≡ w.tally.pruned + count pruned es
   complete : v.tally.complete ≡ w.tally.complete + count complete es
 
 raised-none : (w : SearchState) → Raised w [] w
-raised-none w = record { generated = omega arith; expanded = refl; stored = omega arith; duplicates = omega arith; pruned = omega arith; complete = omega arith }
+raised-none w = record { generated = omega arith; expanded = refl; stored = omega arith; waiting = omega arith; duplicates = omega arith; pruned = omega arith; complete = omega arith }
 
 raised-one : (g : Graph) (y : ℕ) (w : SearchState) (c : Partial) (v : SearchState) (e : Fate) → Leaves g y w c v e → Raised w (e ∷ []) v
-raised-one g y w c v complete l = rw l.tally (record { generated = refl; expanded = refl; stored = omega arith; duplicates = omega arith; pruned = omega arith; complete = refl })
-raised-one g y w c v pruned l = rw l.tally (record { generated = refl; expanded = refl; stored = omega arith; duplicates = omega arith; pruned = refl; complete = omega arith })
-raised-one g y w c v duplicate l = rw l.tally (record { generated = refl; expanded = refl; stored = omega arith; duplicates = refl; pruned = omega arith; complete = omega arith })
-raised-one g y w c v stored l = rw l.tally (record { generated = refl; expanded = refl; stored = refl; duplicates = omega arith; pruned = omega arith; complete = omega arith })
+raised-one g y w c v complete l = rw l.tally (record { generated = refl; expanded = refl; stored = omega arith; waiting = omega arith; duplicates = omega arith; pruned = omega arith; complete = refl })
+raised-one g y w c v pruned l = rw l.tally (record { generated = refl; expanded = refl; stored = omega arith; waiting = omega arith; duplicates = omega arith; pruned = refl; complete = omega arith })
+raised-one g y w c v duplicate l = rw l.tally (record { generated = refl; expanded = refl; stored = omega arith; waiting = omega arith; duplicates = refl; pruned = omega arith; complete = omega arith })
+raised-one g y w c v stored l = rw l.tally (record { generated = refl; expanded = refl; stored = refl; waiting = refl; duplicates = omega arith; pruned = omega arith; complete = omega arith })
 
 raised-more : (w v u : SearchState) (e : Fate) (es : List Fate) → Raised w (e ∷ []) v → Raised v es u → Raised w (e ∷ es) u
 raised-more w v u e es a r = record {
   generated = omega (arith, a.generated, r.generated);
   expanded = omega (arith, a.expanded, r.expanded);
   stored = omega (arith, a.stored, r.stored);
+  waiting = omega (arith, a.waiting, r.waiting);
   duplicates = omega (arith, a.duplicates, r.duplicates);
   pruned = omega (arith, a.pruned, r.pruned);
   complete = omega (arith, a.complete, r.complete);
@@ -171,6 +173,7 @@ expansion-visits-all g b w i l room =
         generated = r.3.generated;
         expanded = omega (arith, r.3.expanded);
         stored = r.3.stored;
+        waiting = r.3.waiting;
         duplicates = r.3.duplicates;
         pruned = r.3.pruned;
         complete = r.3.complete;

@@ -12,5 +12,5 @@ pub mod Ripe
 pub mod Advancing
 pub mod Ending
 pub mod Fates
-pub mod Apart
+pub mod Distinct
 pub mod Courses

@@ -11,7 +11,7 @@ use Rattle.model.specs.Nodes.{SearchNode, no_node, node_at}
 use Rattle.model.proofs.Membership.{contains-first}
 use Rattle.astar.specs.States.{SearchState, best_node, waiting_node, entry}
 use Rattle.astar.specs.Opening.{opened}
-use Rattle.astar.specs.Invariant.{InUse, Grown, Listed, Apart, All}
+use Rattle.astar.specs.Invariant.{InUse, Grown, Listed, Distinct, All}
 use Rattle.astar.specs.Laws.{OpeningStands, OpeningFills}
 use Rattle.astar.proofs.Growth.{FreshNode, BestNode}
 
@@ -66,7 +66,7 @@ module _ (g : Graph) (b : Bound) (s : Partial) (ns : List SearchNode) (L : Lawfu
     order = (tt, tt);
   }
 
-  pub opened-apart : Apart (opened g b s ns)
+  pub opened-apart : Distinct (opened g b s ns)
   opened-apart = record {
     distinct = λ i j u v ne d. ne (one i u ∙ sym (one j v));
     zeroth = ap (λ (x : SearchNode). x.waiting) zeroth;

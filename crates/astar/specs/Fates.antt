@@ -77,7 +77,8 @@ Leaves g y w c v duplicate =
     (record w.tally { generated = w.tally.generated + 1; duplicates = w.tally.duplicates + 1 }) v
 Leaves g y w c v stored = Stores w c y v
 
--- the bound of a child is the greater of its parent's, up, and the rule's; what it leaves is told by its fate
+-- where a node is unused: the bound of a child is the greater of its parent's, up, and the rule's; what it leaves is told
+-- by its fate
 abbrev pub ChildFates : Type 0
 ChildFates = (g : Graph) (b : Bound) (up : ℕ) (w : SearchState) (c : Partial) (e : Fate)
     → used w < length w.nodes → ComesTo g (max up (b g c)) w c e
@@ -113,6 +114,7 @@ count e (f ∷ es) = (if same e f then 1 else 0) + count e es
 pub record Tallied (w : SearchState) (es : List Fate) (v : SearchState) : Type 0 where
   pub generated : v.tally.generated ≡ w.tally.generated + length es
   pub expanded : v.tally.expanded ≡ w.tally.expanded + 1
+  pub waiting : v.tally.waiting ≡ (w.tally.waiting - 1) + count stored es
   pub stored : v.tally.stored ≡ w.tally.stored + count stored es
   pub duplicates : v.tally.duplicates ≡ w.tally.duplicates + count duplicate es
   pub pruned : v.tally.pruned ≡ w.tally.pruned + count pruned es

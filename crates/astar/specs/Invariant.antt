@@ -64,7 +64,7 @@ pub record Listed (w : SearchState) : Type 0 where
   pub once : Once w.bag
   pub order : InOrder entry_before w.bag
 
--- the counts: each child came to one of four ends, and what was stored and not expanded waits in the list
+-- the counts: each child came to one of four fates, and what was stored and not expanded waits in the list
 pub record Counted (w : SearchState) : Type 0 where
   pub made : w.tally.stored + w.tally.duplicates + w.tally.pruned + w.tally.complete
       ≡ w.tally.generated
@@ -72,7 +72,7 @@ pub record Counted (w : SearchState) : Type 0 where
   pub listed : length w.bag ≡ w.tally.waiting
 
 -- no two used nodes above 0 are duplicates, and node 0, which holds the best schedule, does not wait
-pub record Apart (w : SearchState) : Type 0 where
+pub record Distinct (w : SearchState) : Type 0 where
   pub distinct : (i j : ℕ) → InUse w i → InUse w j → i ≢ j
       → is_duplicate (partial_at w i) (partial_at w j) ≡ true → ⊥
   pub zeroth : (node_at w.nodes 0).waiting ≡ false
@@ -85,4 +85,4 @@ pub record Invariant (g : Graph) (w : SearchState) : Type 0 where
   pub grown : Grown g All w
   pub listed : Listed w
   pub counted : Counted w
-  pub apart : Apart w
+  pub apart : Distinct w

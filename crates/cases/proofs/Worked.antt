@@ -28,7 +28,7 @@ list-schedule = ((refl, refl, refl, refl), (refl, refl, refl, refl), refl)
 
 pub bounds : Bounds
 unfolding level
-bounds = ((refl, refl, refl), (refl, refl, refl))
+bounds = ((refl, refl, refl), (refl, refl, refl), (refl, refl, refl))
 
 pub checks : Checks
 unfolding any first leads

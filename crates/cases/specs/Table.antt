@@ -1,4 +1,4 @@
-use Rattle.std.specs.Prelude.{◌≡◌, ◌==◌, ℕ, true, false, List, [], ◌∷◌, ◌++◌, codes, Ok, Err, Result, replicate}
+use Rattle.std.specs.Prelude.{◌≡◌, ◌==◌, ◌||◌, if◌then◌else◌, ℕ, true, false, List, [], ◌∷◌, ◌++◌, codes, Ok, Err, Result, replicate}
 use Rattle.model.specs.Graph.{Graph, level}
 use Rattle.model.specs.Partial.{Partial, nothing, whole}
 use Rattle.model.specs.Bounds.{path_bound, load_bound, arrival_bound, joined_bound}
@@ -134,7 +134,15 @@ ListSchedule =
 abbrev late : Partial
 late = record { placed = λ t. t == 0; machine = λ _. 0; start = λ _. 1 }
 
--- before any task is placed, and then: 11 units of work and idle time on two machines
+-- tasks 0 and 1 on machine 0, which idles for 2 units of time between them
+abbrev gap : Partial
+gap = record {
+  placed = λ t. t == 0 || t == 1;
+  machine = λ _. 0;
+  start = λ t. if t == 1 then 4 else 0;
+}
+
+-- before any task is placed; then with 11 units of work and idle time on two machines, and with 12
 abbrev pub Bounds : Type 0
 Bounds =
     ((path_bound (described example) nothing ≡ 7)
@@ -143,6 +151,9 @@ Bounds =
     × ((path_bound (described example) late ≡ 8)
     × (load_bound (described example) late ≡ 6)
     × (arrival_bound (described example) late ≡ 8))
+    × ((path_bound (described example) gap ≡ 9)
+    × (load_bound (described example) gap ≡ 6)
+    × (arrival_bound (described example) gap ≡ 7))
 
 abbrev pub Checks : Type 0
 Checks =
@@ -253,7 +264,7 @@ ExamplePage = text_of (described example) true example_end
     ++ (line (codes "taken 5 made 11 put 6 twins 0 cut 3 complete 2 waiting 2")
     ++ line (codes "shortest")))))))
 
--- the page of a search that goes on, of which no two numbers are alike
+-- the page of a search that goes on, of which no two numbers are alike; no state of a run, since only the text matters
 abbrev going_on : Moment
 going_on = record {
   sizes = sizes_of (described single) (replicate 20 no_node);

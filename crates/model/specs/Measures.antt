@@ -1,9 +1,9 @@
-use Rattle.std.specs.Prelude.{◌≡◌, ℕ, ◌+◌, ◌-◌, ◌*◌, ◌<◌, ◌≤◌, ◌≢◌, ◌⊎◌, true}
+use Rattle.std.specs.Prelude.{◌≡◌, ℕ, ◌+◌, ◌-◌, ◌*◌, ◌<◌, ◌≤◌, ◌≢◌, ◌⊎◌, true, if◌then◌else◌, ◌&&◌, ◌==◌}
 use Rattle.model.specs.Range.{sum}
 use Rattle.model.specs.Graph.{Graph, level}
 use Rattle.model.specs.Schedule.{Schedule, delay, makespan}
 use Rattle.model.specs.Partial.{Partial, Free, data_ready, machine_finish, append}
-use Rattle.model.specs.Bounds.{Bound, placed_work, load_bound, path_bound, earliest_data, arrival_bound, larger}
+use Rattle.model.specs.Bounds.{Bound, load_bound, path_bound, earliest_data, arrival_bound, larger}
 
 -- Measures in words: each is the least, or the greatest, of the numbers of which something is so.
 
@@ -20,11 +20,15 @@ abbrev pub MakespanIsGreatest : Type 0
 MakespanIsGreatest = (g : Graph) (p : Schedule) → 0 < g.tasks
     → Greatest (λ y. (t : ℕ) × (t < g.tasks) × (y ≡ p.start t + g.work t)) (makespan g p)
 
+-- the work of the tasks that are placed on a machine
+abbrev pub work_there : Graph → Partial → ℕ → ℕ
+work_there g s m = sum g.tasks (λ u. if s.placed u && s.machine u == m then g.work u else 0)
+
 -- load: the least number that, on each machine, makes room for all work and idle time; a machine idles for what its
 -- finish has over the work placed on it
 abbrev pub LoadIsLeast : Type 0
 LoadIsLeast = (g : Graph) (s : Partial) → 0 < g.machines
-    → Least (λ b. sum g.tasks g.work + sum g.machines (λ m. machine_finish g s m - placed_work g s m)
+    → Least (λ b. sum g.tasks g.work + sum g.machines (λ m. machine_finish g s m - work_there g s m)
     ≤ g.machines * b) (load_bound g s)
 
 -- path: some task's bottom level, or a placed task's start plus bottom level, and no task has more

@@ -3,7 +3,7 @@ use Rattle.astar.specs.declared.tally.Tally.{Tally}
 use Rattle.astar.specs.declared.sizes.Sizes.{Sizes}
 use Rattle.astar.specs.States.{SearchState, used}
 
--- the counts of a search, whatever memory it was lent: each child came to one of four ends, as many nodes wait as were
+-- the counts of a search, whatever memory it was lent: each child came to one of four fates, as many nodes wait as were
 -- stored and not expanded, every used node is one of the table, and a node has at most 256 children
 pub record Sensible (z : Sizes) (s : Tally) : Type 0 where
   pub made : s.stored + s.duplicates + s.pruned + s.complete ≡ s.generated

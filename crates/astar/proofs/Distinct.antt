@@ -7,14 +7,14 @@ use Rattle.model.specs.Bounds.{Bound}
 use Rattle.model.specs.Nodes.{SearchNode, no_node, node_at, is_duplicate, is_held}
 use Rattle.astar.specs.States.{SearchState, used, best_node, waiting_node}
 use Rattle.astar.specs.Expansion.{visited, stored}
-use Rattle.astar.specs.Invariant.{InUse, partial_at, Apart}
+use Rattle.astar.specs.Invariant.{InUse, partial_at, Distinct}
 use Rattle.astar.proofs.Visits.{bettered, visit-parts}
 use Rattle.astar.proofs.Duplicates.{duplicate-back, none-held}
 
 -- No two used nodes above 0 are duplicates.
 
 -- where the used nodes keep their partial schedules
-pub apart-on : (w v : SearchState) → Apart w → used v ≡ used w → ((j : ℕ) → InUse w j → partial_at v j ≡ partial_at w j) → (node_at v.nodes 0).waiting ≡ false → Apart v
+pub apart-on : (w v : SearchState) → Distinct w → used v ≡ used w → ((j : ℕ) → InUse w j → partial_at v j ≡ partial_at w j) → (node_at v.nodes 0).waiting ≡ false → Distinct v
 apart-on w v A e keeps z = record {
   distinct = λ i j p q ne d.
       let u : InUse w i = (p.0, omega (arith, p.1, e)) in
@@ -23,7 +23,7 @@ apart-on w v A e keeps z = record {
   zeroth = z;
 }
 
-module _ (g : Graph) (b : Bound) (up : ℕ) (w : SearchState) (c : Partial) (A : Apart w) (room : used w < length w.nodes) where
+module _ (g : Graph) (b : Bound) (up : ℕ) (w : SearchState) (c : Partial) (A : Distinct w) (room : used w < length w.nodes) where
   y : ℕ
   y = max up (b g c)
 
@@ -31,7 +31,7 @@ module _ (g : Graph) (b : Bound) (up : ℕ) (w : SearchState) (c : Partial) (A :
   v = stored w c y
 
   -- a node more is used, where none held a duplicate
-  apart-stored : is_held w.nodes (used w) c ≡ false → Apart v
+  apart-stored : is_held w.nodes (used w) c ≡ false → Distinct v
   unfolding y v
   apart-stored free = record {
     distinct = λ i j p q ne d. elim (dec_lt i (used w)) [
@@ -59,9 +59,9 @@ module _ (g : Graph) (b : Bound) (up : ℕ) (w : SearchState) (c : Partial) (A :
       against : (j : ℕ) → 0 < j → j < used w → is_duplicate c (partial_at w j) ≡ true → ⊥
       against j low high d = clash (is_duplicate c (partial_at w j)) d (none-held w.nodes (used w) c free j low high (omega arith))
 
-  pub apart-visit : Apart (visited g b up w c)
+  pub apart-visit : Distinct (visited g b up w c)
   unfolding y v
-  apart-visit = visit-parts g b up w c Apart
+  apart-visit = visit-parts g b up w c Distinct
       (λ e l. apart-on w (bettered g w c) A refl
       (λ j u. let ne : j ≢ 0 = omega (arith, u.0) in ap (λ (n : SearchNode). n.partial) (get_or-set_other w.nodes 0 j (best_node g c) no_node ne))
       (ap (λ (n : SearchNode). n.waiting) (get_or-set_same w.nodes 0 (best_node g c) no_node (omega (arith, room)))))
