@@ -1,7 +1,10 @@
-use Rattle.std.proofs.Common.{◌≡◌, ℕ, ◌<◌, length, Some, sym, subst, arith}
+use Rattle.std.proofs.Common.{◌≡◌, ℕ, ◌<◌, List, length, set, Some, sym, ap, ◌∙◌, subst, arith, get_or-set_same, get_or-set_other}
+use native.Mathlib.Decide.{ℕ_discrete}
 use Rattle.bag.specs.Bag.{first}
 use Rattle.queue.specs.declared.entry.Entry.{Entry}
+use Rattle.chain.specs.declared.cell.Cell.{Cell}
 use Rattle.chain.specs.declared.links.Links.{Links}
+use Rattle.chain.specs.Cells.{blank, entry_at}
 use Rattle.bag.proofs.Bags.{first-some}
 use Rattle.chain.specs.Chains.{chain_of, step_of}
 use Rattle.chain.specs.ChainBags.{length-chain}
@@ -21,3 +24,13 @@ step_inside l k at e h = subst (λ (x : ℕ). x < length l.cells.now) (sym e) (o
 -- where there is a first entry, a cell is in use
 pub held : (l : Links) (e : Entry) → Some e ≡ first (chain_of l) → 0 < l.count
 held l e is = omega (arith, first-some (chain_of l) e is, length-chain l.cells.now l.head l.count)
+
+-- a cell that names another keeps its entry
+pub entry_kept : (xs : List Cell) (at next k : ℕ) → at < length xs → entry_at (set xs at (record { entry = entry_at xs at; next = next })) k ≡ entry_at xs k
+entry_kept xs at next k h = elim (ℕ_discrete k at) [
+  | yes e ↦ ap (entry_at (set xs at c)) e ∙ ap (λ (x : Cell). x.entry) (get_or-set_same xs at c blank h) ∙ ap (entry_at xs) (sym e)
+  | no ne ↦ ap (λ (x : Cell). x.entry) (get_or-set_other xs at k c blank ne)
+]
+  where
+    c : Cell
+    c = record { entry = entry_at xs at; next = next }

@@ -4,7 +4,7 @@ use Rattle.chain.specs.declared.cell.Cell.{Cell}
 use Rattle.chain.specs.declared.links.Links.{Links}
 use Rattle.chain.specs.declared.links.Place.{Place}
 use Rattle.queue.specs.Entries.{entry_before}
-use Rattle.chain.specs.Cells.{entry_at, onward, walk, entries_at}
+use Rattle.chain.specs.Cells.{entry_at, after, onward, walk, entries_at}
 
 -- what the lent cells hold
 abbrev pub cells_of : Links → List Cell
@@ -37,5 +37,10 @@ pub record CellsKept (a b : Links) : Type 0 where
   -- every cell holds the entry that it held, but for the first free one where an entry was put
   pub entries : (k : ℕ) → (k ≡ a.free → b.count ≤ a.count)
       → entry_at (cells_of b) k ≡ entry_at (cells_of a) k
+  -- an entry is put into the first free cell, and the next one is the first free one then
+  pub used : a.count < b.count → b.free ≡ after (cells_of a) a.free
+  -- a cell that is given up is the first free one then, before those that were free
+  pub given_up : b.count < a.count
+      → (b.free ≡ a.head) × (after (cells_of b) b.free ≡ a.free)
   -- they are the cells of the same lender
   pub lender : b.cells.ghost_name ≡ a.cells.ghost_name

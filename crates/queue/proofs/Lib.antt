@@ -1,6 +1,7 @@
 mod Sifting
 mod Heaping
 pub mod Calls
+mod Behind
 pub mod EntryCalls
 pub mod ReadyCalls
 mod Unchanged

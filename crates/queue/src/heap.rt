@@ -59,7 +59,6 @@ impl<T: TotalOrder> Heap<'_, T> {
         ensures kept { SlotsKept self.old self.new }
         ensures room { length (slots_of self.new) ≡ length (slots_of self.old) }
         ensures refused { result ≡ false → self.new ≡ self.old }
-        ensures lender { self.new.slots.ghost_name ≡ self.old.slots.ghost_name }
     {
         let last = self.count;
         if last == self.capacity() {
@@ -88,7 +87,6 @@ impl<T: TotalOrder> Heap<'_, T> {
         ensures kept { SlotsKept self.old self.new }
         ensures room { length (slots_of self.new) ≡ length (slots_of self.old) }
         ensures empty { result ≡ None → self.new ≡ self.old }
-        ensures lender { self.new.slots.ghost_name ≡ self.old.slots.ghost_name }
     {
         let top = self.peek()?;
         let last = self.count - 1;
