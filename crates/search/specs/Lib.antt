@@ -1,5 +1,6 @@
 pub mod States
 pub mod Counts
+pub mod Keeping
 pub mod Refusals
 pub mod Calls
 pub mod Runs

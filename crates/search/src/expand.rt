@@ -10,9 +10,9 @@ ghost use Rattle.nodes.specs.View.{the_node};
 ghost use Rattle.nodes.specs.Meaning.{the_nodes};
 ghost use Rattle.astar.specs.Advance.{next_node};
 ghost use Rattle.astar.specs.Expansion.{completed, kept_or_dropped, stored, visited, visited_by, expanded};
-ghost use Rattle.queue.specs.Keeping.{Kept};
 ghost use Rattle.search.specs.States.{the_state};
 ghost use Rattle.search.specs.Counts.{Room};
+ghost use Rattle.search.specs.Keeping.{KeptWhile};
 
 use astar::tally::Tally;
 use bounds::lower_bound::LowerBound;
@@ -84,7 +84,7 @@ fn store<L: OpenList>(
 }
 
 // A child that is not complete is pruned, dropped as a duplicate, or stored.
-#[tactic(auto, using(crate::proofs::Keeping::kept_still, crate::proofs::Keeping::kept_one))]
+#[tactic(auto, using(crate::proofs::Keeping::kept_still))]
 fn keep_or_drop<L: OpenList>(
     table: &mut Table,
     list: &mut L,
@@ -97,7 +97,7 @@ fn keep_or_drop<L: OpenList>(
         ≡ kept_or_dropped (the_state tally.old table.old (L.bag list.old))
         (the_partial child.now) bound }
     ensures limit { L.limit list.new ≡ L.limit list.old }
-    ensures kept { Kept L.kept list.old list.new }
+    ensures kept { KeptWhile L.bag L.kept tally.old.stored tally.new.stored list.old list.new }
 {
     if table.node(0).bound <= bound {
         tally.generated += 1;
@@ -126,7 +126,7 @@ fn visit<B: LowerBound, L: OpenList>(
         ≡ visited (the_graph g.now) (B.number rule.now) up
         (the_state tally.old table.old (L.bag list.old)) (the_partial child.now) }
     ensures limit { L.limit list.new ≡ L.limit list.old }
-    ensures kept { Kept L.kept list.old list.new }
+    ensures kept { KeptWhile L.bag L.kept tally.old.stored tally.new.stored list.old list.new }
 {
     if is_complete(g, child) {
         complete(g, table, list, tally, child);
@@ -154,7 +154,7 @@ fn visit_choice<B: LowerBound, L: OpenList>(
         ≡ visited_by (the_graph g.now) (B.number rule.now) (the_node parent.now)
         (the_state tally.old table.old (L.bag list.old)) (pair_of choice.now) }
     ensures limit { L.limit list.new ≡ L.limit list.old }
-    ensures kept { Kept L.kept list.old list.new }
+    ensures kept { KeptWhile L.bag L.kept tally.old.stored tally.new.stored list.old list.new }
     ensures room { (n : ℕ) → Room (n + 1) (L.limit list.old)
         (the_state tally.old table.old (L.bag list.old))
         → Room n (L.limit list.new) (the_state tally.new table.new (L.bag list.new)) }
@@ -184,7 +184,8 @@ fn visit_all<B: LowerBound, L: OpenList>(
         ≡ fold (visited_by (the_graph g.now) (B.number rule.now) (the_node parent.now))
         (the_state tally.old table.old (L.bag list.old)) (pairs_of choices.now) }
     ensures limit { L.limit list.new ≡ L.limit list.old }
-    ensures kept { Kept L.kept list.old list.new }
+    ensures grows { tally.old.stored ≤ tally.new.stored }
+    ensures kept { KeptWhile L.bag L.kept tally.old.stored tally.new.stored list.old list.new }
 {
     for choice in choices {
         visit_choice(g, rule, table, list, tally, parent, choice);
@@ -214,7 +215,7 @@ pub(crate) fn expand<B: LowerBound, L: OpenList>(
         ≡ expanded (the_graph g.now) (B.number rule.now)
         (the_state tally.old table.old (L.bag list.old)) (next_node (L.bag list.old)) }
     ensures limit { L.limit list.new ≡ L.limit list.old }
-    ensures kept { Kept L.kept list.old list.new }
+    ensures kept { KeptWhile L.bag L.kept tally.old.stored tally.new.stored list.old list.new }
 {
     let Some(entry) = list.take() else {
         return;

@@ -2,7 +2,7 @@ ghost use Rattle.std.specs.Prelude.{◌≡◌, ◌+◌, None, Some, MatchResult}
 ghost use Rattle.loader.specs.Meaning.{the_graph};
 ghost use Rattle.astar.specs.Expansion.{expanded};
 ghost use Rattle.astar.specs.Advance.{early_word, turn_word, last_word, next_node, advanced};
-ghost use Rattle.queue.specs.Keeping.{Kept};
+ghost use Rattle.search.specs.Keeping.{KeptWhile};
 ghost use Rattle.search.specs.States.{the_state};
 
 use crate::expand::expand;
@@ -36,7 +36,7 @@ impl Search {
         ensures still { MatchResult result
             (λ _. self.new.tally.expanded ≡ self.old.tally.expanded + 1)
             (λ _. (self.new.tally ≡ self.old.tally) × (list.new ≡ list.old)) }
-        ensures kept { Kept L.kept list.old list.new }
+        ensures kept { KeptWhile L.bag L.kept self.old.tally.stored self.new.tally.stored list.old list.new }
         ensures sizes { self.new.sizes ≡ self.old.sizes }
         ensures limit { L.limit list.new ≡ L.limit list.old }
     {
@@ -73,7 +73,7 @@ impl Search {
             ≡ advanced (the_graph g.now) (B.number rule.now) self.old.sizes
             (L.limit list.old) budget (the_state self.old.tally table.old (L.bag list.old)) }
         ensures still { self.new.tally.expanded ≡ self.old.tally.expanded → list.new ≡ list.old }
-        ensures kept { Kept L.kept list.old list.new }
+        ensures kept { KeptWhile L.bag L.kept self.old.tally.stored self.new.tally.stored list.old list.new }
         ensures sizes { self.new.sizes ≡ self.old.sizes }
         ensures limit { L.limit list.new ≡ L.limit list.old }
     {

@@ -1,4 +1,4 @@
-ghost use Rattle.std.specs.Prelude.{◌≡◌, ◌+◌, ◌≢◌, ◌≤◌, ◌↔◌, Bool, true, false, length, Some, None, Ok, MatchResult, IsOk, IfOk, IfErr};
+ghost use Rattle.std.specs.Prelude.{◌≡◌, ◌+◌, ◌-◌, ◌≢◌, ◌≤◌, ◌↔◌, Bool, true, false, length, Some, None, Ok, MatchResult, IsOk, IfOk, IfErr};
 ghost use Rattle.model.specs.Schedule.{Schedule, Feasible, makespan};
 ghost use Rattle.model.specs.Bounds.{Bound};
 ghost use Rattle.model.specs.Nodes.{node_at};
@@ -59,7 +59,7 @@ impl Search {
             (the_state s.tally table.new (L.bag list.new))) }
         ensures refused { Refuses (OpenRefused (the_nodes table.old) (L.bag list.old) (L.limit list.old))
             search_refusal result }
-        ensures kept { Kept L.kept list.old list.new }
+        ensures kept { IfOk result (λ _. L.kept list.old list.new) }
         ensures limit { L.limit list.new ≡ L.limit list.old }
         ensures run { IfOk result (λ s. Run (the_graph g.now) (B.number rule.now) false
             (moment s table.new (L.bag list.new) (L.limit list.new))) }
@@ -92,7 +92,9 @@ impl Search {
             (the_state self.old.tally table.old (L.bag list.old))
             (the_state self.new.tally table.new (L.bag list.new)) }
         ensures still { self.new.tally.expanded ≡ self.old.tally.expanded → list.new ≡ list.old }
-        ensures kept { Kept L.kept list.old list.new }
+        ensures kept { let most = length (L.bag list.old)
+            + (self.new.tally.stored - self.old.tally.stored) in
+            Kept L.bag L.kept most list.old list.new }
         ensures sizes { self.new.sizes ≡ self.old.sizes }
         ensures limit { L.limit list.new ≡ L.limit list.old }
         ensures run { Run (the_graph g.now) (B.number rule.now) false

@@ -1,4 +1,4 @@
-ghost use Rattle.std.specs.Prelude.{◌≡◌, None, Some, MatchResult};
+ghost use Rattle.std.specs.Prelude.{◌≡◌, None, Some, MatchResult, IfOk};
 ghost use Rattle.loader.specs.Meaning.{the_graph};
 ghost use Rattle.schedule.specs.ListSchedule.{listed};
 ghost use Rattle.model.specs.Partial.{nothing};
@@ -6,7 +6,6 @@ ghost use Rattle.nodes.specs.View.{the_node};
 ghost use Rattle.nodes.specs.Meaning.{the_nodes};
 ghost use Rattle.astar.specs.States.{best_node, waiting_node};
 ghost use Rattle.astar.specs.Opening.{sizes_of, opened};
-ghost use Rattle.queue.specs.Keeping.{Kept};
 ghost use Rattle.search.specs.Calls.{open_fault};
 ghost use Rattle.search.specs.States.{the_state};
 
@@ -79,7 +78,6 @@ fn root<B: LowerBound>(g: &TaskGraph, rule: &B) -> Node
 
 impl Search {
     // The list schedule fills node 0, the empty partial schedule waits in node 1, and its entry is in the list.
-    #[tactic(auto, using(crate::proofs::Keeping::kept_still, crate::proofs::Keeping::kept_one))]
     pub(crate) fn begin<B: LowerBound, L: OpenList>(
         g: &TaskGraph,
         rule: &B,
@@ -94,7 +92,7 @@ impl Search {
             (listed (the_graph g.now) (the_graph g.now).tasks) (the_nodes table.old)))
             (λ e. (open_fault (the_nodes table.old) (L.bag list.old) (L.limit list.old) ≡ Some e)
             × (the_nodes table.new ≡ the_nodes table.old) × (list.new ≡ list.old)) }
-        ensures kept { Kept L.kept list.old list.new }
+        ensures kept { IfOk result (λ _. L.kept list.old list.new) }
         ensures limit { L.limit list.new ≡ L.limit list.old }
     {
         if let Some(fault) = open_fault(table, list) {

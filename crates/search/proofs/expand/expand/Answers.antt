@@ -3,8 +3,8 @@ use Rattle.model.specs.Nodes.{SearchNode, node_at}
 use Rattle.loader.specs.Meaning.{the_graph}
 use Rattle.nodes.specs.Meaning.{the_nodes}
 use Rattle.astar.specs.Advance.{next_node}
-use Rattle.search.proofs.Taking.{taken_next}
-use Rattle.search.proofs.Keeping.{kept_one, kept_on}
+use Rattle.search.proofs.Taking.{taken_next, taken_fewer}
+use Rattle.search.proofs.Keeping.{kept_take, kept_on}
 use Rattle.search.proofs.Folding.{appendable-on}
 use Rattle.search.proofs.expand.expand.Goals as goal
 
@@ -16,4 +16,7 @@ visit_all-requires-clause-appendable g c =
     c.as_slice.ensures c.requires.appendable
 
 pub returns-clause-kept : goal.returns-clause-kept
-returns-clause-kept g c = kept_on g.L.OpenList.kept _ _ _ (kept_one g.L.OpenList.kept _ _ c.take.ensures.kept) c.visit_all.ensures.kept
+returns-clause-kept g c =
+    kept_on g.L.OpenList.bag g.L.OpenList.kept _ _ _ _ _ _
+    (kept_take g.L.OpenList.bag g.L.OpenList.kept _ _ _ c.take.ensures.kept c.take.ensures.after) c.visit_all.ensures.kept
+    c.visit_all.ensures.grows (taken_fewer _ _ _ c.take.ensures.after)

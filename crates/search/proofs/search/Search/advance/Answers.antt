@@ -1,4 +1,4 @@
-use Rattle.std.proofs.Common.{false}
+use Rattle.std.proofs.Common.{false, arith}
 use Rattle.loader.proofs.Laws.{the_lawful}
 use Rattle.search.proofs.Calls.{promised-to, advance-ended, advance-course, advance-run, advance-since, advance-never, advance-met}
 use Rattle.search.proofs.search.Search.advance.Goals as goal
@@ -33,3 +33,6 @@ pub returns-clause-met : goal.returns-clause-met
 returns-clause-met g c r =
     advance-met _ _ c.args.budget _ _ _ _ _ c.spend.ensures.is c.spend.ensures.sizes c.spend.ensures.limit
     ((promised-to c.args.g.now (g.B.LowerBound.number c.args.rule.now) (g.met.B.LowerBound.lower c.args.rule.now)).promise false _ r)
+
+pub returns-clause-kept : goal.returns-clause-kept
+returns-clause-kept g c = c.spend.ensures.kept.kept _ (omega arith)
