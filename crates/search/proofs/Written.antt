@@ -1,6 +1,7 @@
 use Rattle.std.proofs.Common.{◌≡◌, ℕ, ◌<◌, List, length, map, drop, get_or, Result, IfOk, None, Some, Option, sym, refl, ap, subst, ◌∙◌, arith}
 use Rattle.std.specs.List.{range_with_len}
 use Rattle.std.proofs.lemmas.List.{get_or_append_left}
+use Rattle.std.proofs.lemmas.Slice.{drop-append-drop}
 use Rattle.std.proofs.lemmas.List.FromFn.{length-map-range_with_len, get_or-map-range_with_len}
 use Rattle.model.specs.Graph.{Graph}
 use Rattle.model.specs.Schedule.{Schedule, Feasible, makespan}
@@ -58,3 +59,20 @@ best-written g m old new r e w = rw e (go (best_fault G m.sizes m.state m.limit 
           alike-feasible G E (whole s) (schedule_of (with_rows G s old)) (λ t k. let a = rows-agree G s old t k in (sym a.0, sym a.1)) h.1,
           alike-makespan G (schedule_of (with_rows G s old)) (whole s) (rows-agree G s old) ∙ h.2,
         )
+
+-- each row is the one of node 0, and those behind the last task are as they were
+pub each-written : (g : Graph) (s : Partial) (x : ℕ) (o : Option PageFault) (old new : List Placement) (r : Result ℕ PageFault)
+    → r ≡ answer_or x o → new ≡ left_or (with_rows g s old) old o → IfOk r (λ _. (t : ℕ) → t < g.tasks → get_or new t blank ≡ row_of s t)
+each-written g s x o old new r e w = rw e (go o w)
+  where
+    go : (o : Option PageFault) → new ≡ left_or (with_rows g s old) old o → IfOk (answer_or x o) (λ _. (t : ℕ) → t < g.tasks → get_or new t blank ≡ row_of s t)
+    go (Some f) w = tt
+    go None w = λ t h. ap (λ rows. get_or rows t blank) w ∙ row-written g s old t h
+
+pub behind-written : (g : Graph) (s : Partial) (x : ℕ) (o : Option PageFault) (old new : List Placement) (r : Result ℕ PageFault)
+    → r ≡ answer_or x o → new ≡ left_or (with_rows g s old) old o → IfOk r (λ _. drop g.tasks new ≡ drop g.tasks old)
+behind-written g s x o old new r e w = rw e (go o w)
+  where
+    go : (o : Option PageFault) → new ≡ left_or (with_rows g s old) old o → IfOk (answer_or x o) (λ _. drop g.tasks new ≡ drop g.tasks old)
+    go (Some f) w = tt
+    go None w = ap (drop g.tasks) w ∙ drop-append-drop g.tasks old (map (row_of s) (range_with_len 0 g.tasks)) g.tasks (omega arith) (length-map-range_with_len (row_of s) 0 g.tasks)

@@ -1,7 +1,6 @@
 ghost use Rattle.std.specs.Prelude.{◌≡◌, None, Some, MatchResult, IfOk};
 ghost use Rattle.loader.specs.Meaning.{the_graph};
 ghost use Rattle.nodes.specs.Meaning.{the_nodes};
-ghost use Rattle.queue.specs.Keeping.{Kept};
 ghost use Rattle.search.specs.Calls.{open_fault};
 ghost use Rattle.solve.specs.Solving.{end_of, ended, is_shortest, would_settle, Solves};
 
@@ -41,7 +40,6 @@ pub fn solve<B: LowerBound, L: OpenList>(
         × (the_nodes table.new ≡ the_nodes table.old) × (list.new ≡ list.old)) }
     ensures solves { IfOk result (λ s. Solves (the_graph g.now) (B.number rule.now) table.new
         (L.bag list.new) (L.limit list.new) s) }
-    ensures kept { Kept L.kept list.old list.new }
     ensures limit { L.limit list.new ≡ L.limit list.old }
 {
     let mut search = Search::open(g, rule, table, list)?;

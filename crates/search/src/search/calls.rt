@@ -1,9 +1,9 @@
-ghost use Rattle.std.specs.Prelude.{◌≡◌, ◌+◌, ◌-◌, ◌≢◌, ◌≤◌, ◌↔◌, Bool, true, false, length, Some, None, Ok, MatchResult, IsOk, IfOk, IfErr};
+ghost use Rattle.std.specs.Prelude.{◌≡◌, ℕ, ◌+◌, ◌-◌, ◌≢◌, ◌<◌, ◌≤◌, ◌↔◌, Bool, true, false, length, drop, slice_index_or, Some, None, Ok, MatchResult, IsOk, IfOk, IfErr};
 ghost use Rattle.model.specs.Schedule.{Schedule, Feasible, makespan};
 ghost use Rattle.model.specs.Bounds.{Bound};
 ghost use Rattle.model.specs.Nodes.{node_at};
 ghost use Rattle.loader.specs.Meaning.{the_graph};
-ghost use Rattle.schedule.specs.Rows.{schedule_of};
+ghost use Rattle.schedule.specs.Rows.{blank, schedule_of};
 ghost use Rattle.schedule.specs.ListSchedule.{listed};
 ghost use Rattle.nodes.specs.Meaning.{the_nodes};
 ghost use Rattle.queue.specs.Keeping.{Kept};
@@ -19,7 +19,7 @@ ghost use Rattle.refusal.specs.Refusing.{Refuses};
 ghost use Rattle.search.specs.Refusals.{search_refusal, page_refusal};
 ghost use Rattle.search.specs.Refused.{OpenRefused, FloorRefused, SettleRefused, WriteRefused};
 ghost use Rattle.search.specs.declared.fault.SearchFault.TheVariants.{Unsettled};
-ghost use Rattle.search.specs.Calls.{open_fault, floor_fault, settle_fault, best_fault, answer_or, left_or, with_rows};
+ghost use Rattle.search.specs.Calls.{open_fault, floor_fault, settle_fault, best_fault, answer_or, left_or, row_of, with_rows};
 ghost use Rattle.search.specs.States.{the_state, moment};
 ghost use Rattle.search.specs.Runs.{Moment, Run, Since, Settles};
 ghost use Rattle.search.specs.Promise.{floor, best, IsShortest, Promised, InRun};
@@ -178,6 +178,10 @@ impl Search {
             (best_fault (the_graph g.now) self.now.sizes
             (the_state self.now.tally table.now (L.bag list.old)) (L.limit list.old)
             (length rows.old)) }
+        ensures each { IfOk result (λ _. (t : ℕ) → t < (the_graph g.now).tasks
+            → slice_index_or rows.new t blank ≡ row_of (node_at (the_nodes table.now) 0).partial t) }
+        ensures behind { IfOk result (λ _. drop (the_graph g.now).tasks rows.new
+            ≡ drop (the_graph g.now).tasks rows.old) }
         ensures written { IfOk result (λ v. Feasible (the_graph g.now) (schedule_of rows.new)
             × (makespan (the_graph g.now) (schedule_of rows.new) ≡ v)) }
         ensures same { list.new ≡ list.old }

@@ -1,13 +1,13 @@
-ghost use Rattle.std.specs.Prelude.{◌≡◌, ◌+◌, ◌≤◌, true, length, Ok, IfOk};
+ghost use Rattle.std.specs.Prelude.{◌≡◌, ℕ, ◌+◌, ◌<◌, ◌≤◌, true, length, drop, slice_index_or, Ok, IfOk};
 ghost use Rattle.model.specs.Schedule.{Schedule, Feasible, makespan};
 ghost use Rattle.model.specs.Nodes.{node_at};
 ghost use Rattle.loader.specs.Meaning.{the_graph};
-ghost use Rattle.schedule.specs.Rows.{schedule_of};
+ghost use Rattle.schedule.specs.Rows.{blank, schedule_of};
 ghost use Rattle.nodes.specs.Meaning.{the_nodes};
 ghost use Rattle.astar.specs.States.{best_length};
 ghost use Rattle.astar.specs.Laws.{LeastOf};
 ghost use Rattle.astar.specs.Laws as laws;
-ghost use Rattle.search.specs.Calls.{floor_fault, best_fault, answer_or, left_or, with_rows};
+ghost use Rattle.search.specs.Calls.{floor_fault, best_fault, answer_or, left_or, row_of, with_rows};
 ghost use Rattle.refusal.specs.Refusing.{Refuses};
 ghost use Rattle.search.specs.Refusals.{search_refusal, page_refusal};
 ghost use Rattle.search.specs.Refused.{FloorRefused, WriteRefused};
@@ -85,6 +85,10 @@ impl Settled {
             (best_fault (the_graph g.now) self.now.search.sizes
             (the_state self.now.search.tally table.now (L.bag list.old)) (L.limit list.old)
             (length rows.old)) }
+        ensures each { IfOk result (λ _. (t : ℕ) → t < (the_graph g.now).tasks
+            → slice_index_or rows.new t blank ≡ row_of (node_at (the_nodes table.now) 0).partial t) }
+        ensures behind { IfOk result (λ _. drop (the_graph g.now).tasks rows.new
+            ≡ drop (the_graph g.now).tasks rows.old) }
         ensures written { IfOk result (λ v. Feasible (the_graph g.now) (schedule_of rows.new)
             × (makespan (the_graph g.now) (schedule_of rows.new) ≡ v)) }
         ensures same { list.new ≡ list.old }

@@ -5,23 +5,10 @@ use Rattle.search.specs.States.{moment}
 use Rattle.search.specs.Promise.{best, IsShortest}
 use Rattle.nodes.specs.Meaning.{the_nodes}
 use Rattle.search.specs.Runs.{Moment}
-use Rattle.search.proofs.Keeping.{kept_on}
 use Rattle.schedule.specs.ListSchedule.{listed}
 use Rattle.astar.specs.Opening.{sizes_of, opened}
 use Rattle.solve.specs.Solving.{advanced_often, ended, would_settle, ShortestAt, OpenAt}
 use Rattle.solve.proofs.solve.solve.Goals as goal
-
-pub loop-preserved : goal.loop-preserved
-loop-preserved g c =
-    let i = c.loop.invariant in
-    let a = c.advance.ensures in
-    record {
-      state = search rules;
-      sizes = a.sizes ∙ i.sizes;
-      run = a.run i.run;
-      kept = kept_on g.L.OpenList.kept _ _ _ i.kept a.kept;
-      limit = a.limit ∙ i.limit;
-    }
 
 pub returns-in-Ok-clause-solves : goal.returns-in-Ok-clause-solves
 returns-in-Ok-clause-solves g c =

@@ -2,7 +2,6 @@ use Rattle.std.proofs.Common.{◌≡◌, false}
 use Rattle.loader.specs.Meaning.{the_graph}
 use Rattle.schedule.specs.ListSchedule.{listed}
 use Rattle.nodes.specs.Meaning.{the_nodes}
-use Rattle.queue.specs.Keeping.{Kept}
 use Rattle.astar.specs.Opening.{sizes_of, opened}
 use Rattle.search.specs.States.{the_state, moment}
 use Rattle.search.specs.Runs.{Run}
@@ -16,6 +15,5 @@ invariant-loop g l = record {
       (opened (the_graph l.g) (g.B.LowerBound.number l.rule) (listed (the_graph l.g) (the_graph l.g).tasks) (the_nodes l.fn.table));
   sizes : l.search.sizes ≡ sizes_of (the_graph l.g) (the_nodes l.fn.table);
   run : Run (the_graph l.g) (g.B.LowerBound.number l.rule) false (moment l.search l.table (g.L.OpenList.bag l.list) (g.L.OpenList.limit l.list));
-  kept : Kept g.L.OpenList.kept l.fn.list l.list;
   limit : g.L.OpenList.limit l.list ≡ g.L.OpenList.limit l.fn.list;
 }
