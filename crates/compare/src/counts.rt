@@ -1,16 +1,16 @@
 use crate::shortest::Shortest;
 use astar::tally::Tally;
-use std::fmt;
+use std::io;
 
 // What was done, and how many differences there were.
-#[derive(Clone, Copy, PartialEq, Eq, Debug)]
+#[derive(Clone, Copy)]
 pub(crate) struct Counts {
     pub(crate) graphs: u64,
     // Graphs whose list schedule is longer than the shortest schedule.
     longer: u64,
     left_shifted: u64,
     any_start: u64,
-    searches: u64,
+    pub(crate) searches: u64,
     // The sums over all searches.
     tally: Tally,
     differences: u64,
@@ -35,12 +35,15 @@ impl Counts {
         differences: 0,
     };
 
-    // A graph's schedules were tried.
-    pub(crate) fn add_graph(&mut self, left_shifted: Shortest, any_start: Option<Shortest>) {
-        let tried = any_start.map_or(0, |shortest| shortest.tried);
+    // All left-shifted schedules of a graph were tried.
+    pub(crate) fn add_graph(&mut self, left_shifted: Shortest) {
         self.graphs = self.graphs.saturating_add(1);
         self.left_shifted = self.left_shifted.saturating_add(left_shifted.tried);
-        self.any_start = self.any_start.saturating_add(tried);
+    }
+
+    // All schedules of a graph with any start were tried.
+    pub(crate) fn add_any_start(&mut self, any_start: Shortest) {
+        self.any_start = self.any_start.saturating_add(any_start.tried);
     }
 
     // Whether the graph's list schedule is longer than the shortest.
@@ -67,10 +70,8 @@ impl Counts {
     pub(crate) fn add_difference(&mut self) {
         self.differences = self.differences.saturating_add(1);
     }
-}
 
-impl fmt::Display for Counts {
-    fn fmt<W: fmt::Write>(&self, f: &mut fmt::Formatter<W>) -> fmt::Result {
+    pub(crate) fn print(&self, rt: &impl Print) -> io::Result<()> {
         let Counts {
             graphs,
             longer,
@@ -89,17 +90,11 @@ impl fmt::Display for Counts {
             complete,
             waiting,
         } = tally;
-        writeln!(f, "graphs {graphs}, list schedule longer in {longer}")?;
-        writeln!(
-            f,
-            "schedules left-shifted {left_shifted}, with any start {any_start}"
-        )?;
-        writeln!(
-            f,
-            "searches {searches}, steps {expanded}, children {generated}"
-        )?;
-        write!(f, "stored {stored}, duplicates {duplicates}, ")?;
-        writeln!(f, "pruned {pruned}, complete {complete}, waiting {waiting}")?;
-        write!(f, "differences {differences}")
+        println!(rt; "graphs {graphs}, list schedule longer in {longer}")?;
+        println!(rt; "schedules left-shifted {left_shifted}, with any start {any_start}")?;
+        println!(rt; "searches {searches}, steps {expanded}, children {generated}")?;
+        print!(rt; "stored {stored}, duplicates {duplicates}, ")?;
+        println!(rt; "pruned {pruned}, complete {complete}, waiting {waiting}")?;
+        println!(rt; "differences {differences}")
     }
 }

@@ -1,5 +1,4 @@
-use crate::difference::{Difference, Marks};
-use crate::rules::{do_obey, makespan};
+use crate::difference::Difference;
 use crate::sketch::{BLANK, Sketch};
 use astar::outcome::Outcome;
 use astar::tally::Tally;
@@ -8,9 +7,8 @@ use loader::graph::TaskGraph;
 use nodes::table::Table;
 use partial::placement::Placement;
 use queue::open_list::OpenList;
-use refusal::refusal::Refusal;
 use schedule::check::check;
-use search::search::{Search, Settled};
+use search::search::Search;
 
 // More calls than any search here makes.
 const CALLS: u64 = 100_000;
@@ -23,6 +21,13 @@ pub(crate) struct Case {
     pub(crate) shortest: u64,
 }
 
+// How far a search is: its floor and its best length.
+#[derive(Clone, Copy)]
+struct Marks {
+    floor: u64,
+    length: u64,
+}
+
 impl Case {
     // How far a search of this case is.
     fn marks<L: OpenList>(
@@ -30,32 +35,25 @@ impl Case {
         search: &Search,
         table: &Table,
         list: &mut L,
-    ) -> Result<Marks, Refusal> {
-        let floor = search.floor(&self.graph, table, list)?;
+    ) -> Result<Marks, Difference> {
         let mut rows = [BLANK; 32];
-        let length = search.best(&self.graph, table, list, &mut rows)?;
+        let floor = search
+            .floor(&self.graph, table, list)
+            .or(Err(Difference::Refused))?;
+        let best = search.best(&self.graph, table, list, &mut rows);
+        let length = best.or(Err(Difference::Refused))?;
         Ok(Marks { floor, length })
     }
 
-    // One call of advance: the floor may not fall, the best length may not rise, and the shortest length stays between.
-    fn advance<B: LowerBound, L: OpenList>(
-        &self,
-        search: &mut Search,
-        rule: &B,
-        table: &mut Table,
-        list: &mut L,
-        budget: u64,
-    ) -> Result<Outcome, Difference> {
-        let before = self.marks(search, table, list)?;
-        let outcome = search.advance(&self.graph, rule, table, list, budget);
-        let after = self.marks(search, table, list)?;
+    // The floor may not fall, the best length may not rise, and the shortest length stays between.
+    fn check_marks(&self, before: Marks, after: Marks) -> Result<(), Difference> {
         if after.floor < before.floor || before.length < after.length {
-            return Err(Difference::Back(before, after));
+            Err(Difference::Back)
+        } else if self.shortest < after.floor || after.length < self.shortest {
+            Err(Difference::Beyond)
+        } else {
+            Ok(())
         }
-        if self.shortest < after.floor || after.length < self.shortest {
-            return Err(Difference::Beyond(after, self.shortest));
-        }
-        Ok(outcome)
     }
 
     // Calls of advance until one ends with Met.
@@ -68,7 +66,10 @@ impl Case {
         budget: u64,
     ) -> Result<(), Difference> {
         for _ in 0..CALLS {
-            match self.advance(search, rule, table, list, budget)? {
+            let before = self.marks(search, table, list)?;
+            let outcome = search.advance(&self.graph, rule, table, list, budget);
+            self.check_marks(before, self.marks(search, table, list)?)?;
+            match outcome {
                 Outcome::Paused => {}
                 Outcome::Met => return Ok(()),
                 outcome => return Err(Difference::Ended(outcome)),
@@ -77,43 +78,19 @@ impl Case {
         Err(Difference::Endless)
     }
 
-    // Whether rows pass the check and the program's own test with this makespan.
-    fn check_rows(&self, rows: &[Placement], length: u64) -> Result<(), Difference> {
-        let checked = check(&self.graph, rows).map_err(Refusal::from)?;
-        if !do_obey(&self.sketch, rows) {
-            return Err(Difference::Rows(None));
+    // Whether rows pass the check and the program's own test with the shortest length.
+    fn check_rows(&self, rows: &[Placement]) -> Result<(), Difference> {
+        let checked = check(&self.graph, rows).or(Err(Difference::Refused))?;
+        let is_own = self.sketch.is_obeyed(rows) && self.sketch.makespan(rows) == self.shortest;
+        if is_own && checked == self.shortest {
+            Ok(())
+        } else {
+            Err(Difference::Rows)
         }
-        let makespan = makespan(&self.sketch, rows);
-        if checked != length || makespan != length {
-            return Err(Difference::Rows(Some(makespan)));
-        }
-        Ok(())
     }
 
-    // Floor and best length of a settled search are the shortest length, and the best rows have it.
-    fn check_settled<L: OpenList>(
-        &self,
-        settled: &Settled,
-        table: &Table,
-        list: &mut L,
-    ) -> Result<(), Difference> {
-        let mut rows = [BLANK; 32];
-        let floor = settled
-            .floor(&self.graph, table, list)
-            .map_err(Refusal::from)?;
-        let length = settled
-            .best(&self.graph, table, list, &mut rows)
-            .map_err(Refusal::from)?;
-        self.check_rows(&rows[..self.graph.tasks()], length)?;
-        for settled in [floor, length] {
-            if settled != self.shortest {
-                return Err(Difference::Length(settled, self.shortest));
-            }
-        }
-        Ok(())
-    }
-
-    // A search from its opening to its settling: what it did.
+    // A search from its opening to its settling: what it did. Floor and best length are then the shortest length, and the
+    // best rows have it.
     pub(crate) fn search<B: LowerBound, L: OpenList>(
         &self,
         rule: &B,
@@ -121,12 +98,22 @@ impl Case {
         list: &mut L,
         budget: u64,
     ) -> Result<Tally, Difference> {
-        let mut search = Search::open(&self.graph, rule, table, list).map_err(Refusal::from)?;
+        let opened = Search::open(&self.graph, rule, table, list);
+        let mut search = opened.or(Err(Difference::Refused))?;
         self.run(&mut search, rule, table, list, budget)?;
         let settled = search
             .settle(&self.graph, table, list)
-            .map_err(|(fault, _)| Refusal::from(fault))?;
-        self.check_settled(&settled, table, list)?;
+            .or(Err(Difference::Refused))?;
+        let floor = settled
+            .floor(&self.graph, table, list)
+            .or(Err(Difference::Refused))?;
+        let mut rows = [BLANK; 32];
+        let best = settled.best(&self.graph, table, list, &mut rows);
+        let length = best.or(Err(Difference::Refused))?;
+        if floor != self.shortest || length != self.shortest {
+            return Err(Difference::Length);
+        }
+        self.check_rows(&rows[..self.graph.tasks()])?;
         Ok(settled.tally())
     }
 }

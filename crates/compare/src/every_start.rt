@@ -1,6 +1,5 @@
-use crate::rules::{do_obey, makespan};
 use crate::shortest::Shortest;
-use crate::sketch::{BLANK, MOST, Sketch};
+use crate::sketch::{BLANK, Sketch, TINY};
 use partial::placement::Placement;
 
 // Every machine and every start up to `latest` for the first `left` tasks, beside the rows of the others.
@@ -12,28 +11,27 @@ fn try_all(
     shortest: &mut Shortest,
 ) {
     if left == 0 {
-        if do_obey(sketch, rows) {
-            shortest.see(makespan(sketch, rows));
+        if sketch.is_obeyed(rows) {
+            shortest.see(sketch.makespan(rows));
         }
         return;
     }
-    let places = (0..sketch.machines).flat_map(|machine| (0..=latest).map(move |start| Placement {
-        machine,
-        start,
-    }));
-    for place in places {
-        if let Some(row) = rows.get_mut(left - 1) {
-            *row = place;
+    for machine in 0..sketch.machines {
+        for start in 0..=latest {
+            if let Some(row) = rows.get_mut(left - 1) {
+                *row = Placement { machine, start };
+            }
+            try_all(sketch, latest, rows, left - 1, shortest);
         }
-        try_all(sketch, latest, rows, left - 1, shortest);
     }
 }
 
-// The shortest of all schedules that obey the rules and start no task later than the sum of all works and costs.
+// The shortest of all schedules of a tiny sketch that obey the rules and start no task later than the sum of all works and
+// costs.
 pub(crate) fn shortest_of_all(sketch: &Sketch) -> Shortest {
     let mut shortest = Shortest::NONE;
-    let mut rows = [BLANK; MOST];
-    let tasks = sketch.tasks.min(MOST);
+    let mut rows = [BLANK; TINY];
+    let tasks = sketch.tasks.min(TINY);
     try_all(
         sketch,
         sketch.sum(),

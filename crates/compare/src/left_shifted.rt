@@ -1,60 +1,62 @@
-use crate::rules::{Placed, makespan};
 use crate::shortest::Shortest;
-use crate::sketch::{BLANK, MOST, Sketch};
+use crate::sketch::{MOST, Sketch};
 use partial::placement::Placement;
 
-// A row for each task that is placed.
-type Places = [Option<Placement>; MOST];
+// Sketches have at most so many machines.
+const MACHINES: usize = 3;
 
-// When task u lets task t start on machine m: at its finish on the same machine, when its data is there on another. None
-// where t waits for data of u, which is not placed.
-fn release(sketch: &Sketch, u: usize, place: Option<Placement>, t: usize, m: u8) -> Option<u64> {
-    let Some(row) = place else {
-        return match sketch.cost(u, t) {
-            Some(_) => None,
-            None => Some(0),
-        };
-    };
-    let placed = Placed { task: u, row };
-    if row.machine == m {
-        Some(placed.finish(sketch))
-    } else {
-        Some(placed.arrival(sketch, t, m).unwrap_or(0))
+// A schedule that is being made: a row for each task that is placed, and the greatest finish of these.
+#[derive(Clone, Copy)]
+struct Draft {
+    rows: [Option<Placement>; MOST],
+    length: u64,
+}
+
+// When task u lets task t start on a machine: at its finish there, when its data is there from another. None where t waits
+// for data of u, which is not placed.
+fn release(sketch: &Sketch, u: usize, row: Option<Placement>, t: usize, m: u8) -> Option<u64> {
+    match row {
+        Some(row) if row.machine == m => Some(sketch.finish(u, row)),
+        Some(row) => Some(sketch.arrival(u, row, t, m)),
+        None if sketch.cost(u, t).is_some() => None,
+        None => Some(0),
     }
 }
 
-// When task t can start on machine m behind all that is placed.
-fn start_on(sketch: &Sketch, places: &Places, t: usize, m: u8) -> Option<u64> {
-    let mut start = 0;
-    for (u, place) in places.iter().enumerate() {
-        start = release(sketch, u, *place, t, m)?.max(start);
+impl Draft {
+    // When task t can start on machine m behind all that is placed.
+    fn start_on(&self, sketch: &Sketch, t: usize, m: u8) -> Option<u64> {
+        let mut start = 0;
+        for (u, row) in self.rows.iter().enumerate() {
+            start = release(sketch, u, *row, t, m)?.max(start);
+        }
+        Some(start)
     }
-    Some(start)
-}
 
-// Task t put on machine m, as early as it can start behind all that is placed; None where it is placed or waits for data.
-fn append(sketch: &Sketch, places: &Places, t: usize, m: u8) -> Option<Places> {
-    if places.get(t)?.is_some() {
-        return None;
+    // Task t put on machine m, as early as it can start behind all that is placed; None where it is placed or waits for
+    // data, and where the sketch lacks it.
+    fn append(&self, sketch: &Sketch, t: usize, m: u8) -> Option<Draft> {
+        if t >= sketch.tasks || m >= sketch.machines || self.rows.get(t)?.is_some() {
+            return None;
+        }
+        let start = u32::try_from(self.start_on(sketch, t, m)?).ok()?;
+        let row = Placement { machine: m, start };
+        let mut appended = *self;
+        *appended.rows.get_mut(t)? = Some(row);
+        appended.length = sketch.finish(t, row).max(self.length);
+        Some(appended)
     }
-    let start = u32::try_from(start_on(sketch, places, t, m)?).ok()?;
-    let mut appended = *places;
-    *appended.get_mut(t)? = Some(Placement { machine: m, start });
-    Some(appended)
 }
 
 // Every way to append the `left` tasks that are not placed: every order and every machine.
-fn try_all(sketch: &Sketch, places: &Places, left: usize, shortest: &mut Shortest) {
+fn try_all(sketch: &Sketch, draft: &Draft, left: usize, shortest: &mut Shortest) {
     if left == 0 {
-        let rows = places.map(|place| place.unwrap_or(BLANK));
-        shortest.see(makespan(sketch, &rows));
+        shortest.see(draft.length);
         return;
     }
-    let choices = (0..MOST).flat_map(|t| (0..sketch.machines).map(move |m| (t, m)));
-    for (t, m) in choices {
-        if t < sketch.tasks
-            && let Some(appended) = append(sketch, places, t, m)
-        {
+    for choice in 0..MOST * MACHINES {
+        let (t, m) = (choice / MACHINES, choice % MACHINES);
+        if let Some(appended) = draft.append(sketch, t, m as u8) {
             try_all(sketch, &appended, left - 1, shortest);
         }
     }
@@ -63,6 +65,10 @@ fn try_all(sketch: &Sketch, places: &Places, left: usize, shortest: &mut Shortes
 // The shortest of all left-shifted schedules.
 pub(crate) fn shortest_left_shifted(sketch: &Sketch) -> Shortest {
     let mut shortest = Shortest::NONE;
-    try_all(sketch, &[None; MOST], sketch.tasks, &mut shortest);
+    let nothing = Draft {
+        rows: [None; MOST],
+        length: 0,
+    };
+    try_all(sketch, &nothing, sketch.tasks, &mut shortest);
     shortest
 }

@@ -1,19 +1,18 @@
 #![tactic(auto)]
 
 // Tries all schedules of many small graphs and compares the shortest with what a search settles on, by each rule, on both
-// open lists, in one call and step by step. Prints each difference, and what was done.
+// open lists, in one call and step by step. Prints each graph in which something differs, and what was done.
 use crate::counts::Counts;
 use crate::course::Case;
 use crate::difference::Difference;
 use crate::every_start::shortest_of_all;
 use crate::left_shifted::shortest_left_shifted;
 use crate::memory::Memory;
-use crate::picked::picked;
+use crate::picked::PICKED;
 use crate::random::Random;
-use crate::run_file::{read, run_file};
+use crate::run_file::run_file;
 use crate::sketch::{MOST, Sketch, TINY};
 use crate::zero_bound::ZeroBound;
-use astar::tally::Tally;
 use bounds::arrival_bound::ArrivalBound;
 use bounds::larger_of::LargerOf;
 use bounds::load_bound::LoadBound;
@@ -21,8 +20,9 @@ use bounds::lower_bound::LowerBound;
 use bounds::path_bound::PathBound;
 use chain::entry_chain::EntryChain;
 use children::complete::makespan;
+use loader::graph::TaskGraph;
+use loader::load::load;
 use queue::entry_heap::EntryHeap;
-use refusal::refusal::Refusal;
 use schedule::list::list_schedule;
 use std::io;
 
@@ -55,121 +55,100 @@ const JOINED: LargerOf<LargerOf<PathBound, LoadBound>, ArrivalBound> = LargerOf 
     second: ArrivalBound,
 };
 
-// Prints a difference of a search, and counts the search.
-fn note(
-    rt: &impl Print,
-    counts: &mut Counts,
-    name: &str,
-    budget: u64,
-    searched: Result<Tally, Difference>,
-) -> io::Result<()> {
-    let graph = counts.graphs;
-    match searched {
-        Ok(tally) => counts.add_search(tally),
-        Err(difference) => {
-            counts.add_difference();
-            println!(rt; "graph {graph} rule {name} budget {budget}: {difference}")?;
+// What is compared with: the memory of the searches, and what was done so far.
+#[derive(Drop)]
+struct Comparison {
+    memory: Memory,
+    counts: Counts,
+}
+
+impl Comparison {
+    // The searches of a case by one rule: step by step and in one call, on both lists.
+    fn compare_rule<B: LowerBound>(&mut self, case: &Case, rule: &B) -> Result<(), Difference> {
+        let Memory {
+            table,
+            slots,
+            cells,
+        } = &mut self.memory;
+        for budget in [1, ENOUGH] {
+            let mut heap = EntryHeap::start(slots.as_mut_slice());
+            self.counts
+                .add_search(case.search(rule, table, &mut heap, budget)?);
+            let mut chain = EntryChain::start(cells.as_mut_slice());
+            self.counts
+                .add_search(case.search(rule, table, &mut chain, budget)?);
         }
+        Ok(())
     }
-    Ok(())
-}
 
-// The searches of a case by one rule: step by step and in one call, on both lists.
-fn compare_rule<B: LowerBound>(
-    rt: &impl Print,
-    counts: &mut Counts,
-    memory: &mut Memory,
-    case: &Case,
-    name: &str,
-    rule: &B,
-) -> io::Result<()> {
-    for budget in [1, ENOUGH] {
-        let mut heap = EntryHeap::start(memory.slots.as_mut_slice());
-        let on_heap = case.search(rule, &mut memory.table, &mut heap, budget);
-        note(rt, counts, name, budget, on_heap)?;
-        let mut chain = EntryChain::start(memory.cells.as_mut_slice());
-        let on_chain = case.search(rule, &mut memory.table, &mut chain, budget);
-        note(rt, counts, name, budget, on_chain)?;
+    // The searches of a case by each rule alone, by the rules joined, and by none.
+    fn compare_case(&mut self, case: &Case) -> Result<(), Difference> {
+        self.compare_rule(case, &PathBound)?;
+        self.compare_rule(case, &LoadBound)?;
+        self.compare_rule(case, &ArrivalBound)?;
+        self.compare_rule(case, &JOINED)?;
+        self.compare_rule(case, &ZeroBound)
     }
-    Ok(())
-}
 
-// The searches of a case by each rule alone, by the rules joined, and by none.
-fn compare_case(
-    rt: &impl Print,
-    counts: &mut Counts,
-    memory: &mut Memory,
-    case: &Case,
-) -> io::Result<()> {
-    compare_rule(rt, counts, memory, case, "path", &PathBound)?;
-    compare_rule(rt, counts, memory, case, "load", &LoadBound)?;
-    compare_rule(rt, counts, memory, case, "arrival", &ArrivalBound)?;
-    compare_rule(rt, counts, memory, case, "joined", &JOINED)?;
-    compare_rule(rt, counts, memory, case, "zero", &ZeroBound)
-}
-
-// The shortest length of all schedules of a sketch. Of the tiniest ones every start is tried too: none is shorter.
-fn try_schedules(rt: &impl Print, counts: &mut Counts, sketch: &Sketch) -> io::Result<u64> {
-    let left_shifted = shortest_left_shifted(sketch);
-    let any_start = (sketch.tasks <= TINY).then(|| shortest_of_all(sketch));
-    counts.add_graph(left_shifted, any_start);
-    let length = left_shifted.length;
-    if let Some(all) = any_start
-        && all.length != length
-    {
-        let graph = counts.graphs;
-        let least = all.length;
-        counts.add_difference();
-        println!(rt; "graph {graph}: left-shifted {length}, with any start {least}")?;
-    }
-    Ok(length)
-}
-
-// Makes a graph, tries all its schedules and compares all searches.
-fn compare(
-    rt: &(impl Print + AllocGlobal),
-    counts: &mut Counts,
-    memory: &mut Memory,
-    sketch: Sketch,
-) -> io::Result<()> {
-    let shortest = try_schedules(rt, counts, &sketch)?;
-    let file = run_file(rt.alloc(), &sketch)?;
-    match read(file.as_slice()) {
-        Ok(graph) => {
-            let case = Case {
-                sketch,
-                graph,
-                shortest,
-            };
-            counts.add_list_schedule(shortest < makespan(&graph, &list_schedule(&graph)));
-            compare_case(rt, counts, memory, &case)
+    // The shortest length of all schedules of a sketch. Of the tiniest ones every start is tried too: none is shorter.
+    fn try_schedules(&mut self, sketch: &Sketch) -> Result<u64, Difference> {
+        let left_shifted = shortest_left_shifted(sketch);
+        self.counts.add_graph(left_shifted);
+        if sketch.tasks <= TINY {
+            let any_start = shortest_of_all(sketch);
+            self.counts.add_any_start(any_start);
+            if any_start.length != left_shifted.length {
+                return Err(Difference::Shorter);
+            }
         }
-        Err(fault) => {
-            let refusal = Refusal::from(fault);
-            let graph = counts.graphs;
-            counts.add_difference();
-            println!(rt; "graph {graph}: {refusal}")
+        Ok(left_shifted.length)
+    }
+
+    // Tries all schedules of a sketch, reads its run file and compares all searches.
+    fn compare_sketch(&mut self, sketch: &Sketch, file: &[u8]) -> Result<(), Difference> {
+        let shortest = self.try_schedules(sketch)?;
+        let mut graph = TaskGraph::new();
+        load(&mut graph, file).or(Err(Difference::Refused))?;
+        let listed = makespan(&graph, &list_schedule(&graph));
+        self.counts.add_list_schedule(shortest < listed);
+        self.compare_case(&Case {
+            sketch: *sketch,
+            graph,
+            shortest,
+        })
+    }
+
+    // Prints what differs in a sketch, if anything does, and behind how many graphs and searches.
+    fn compare(&mut self, rt: &(impl Print + AllocGlobal), sketch: &Sketch) -> io::Result<()> {
+        let file = run_file(rt.alloc(), sketch)?;
+        if let Err(difference) = self.compare_sketch(sketch, file.as_slice()) {
+            self.counts.add_difference();
+            let Counts {
+                graphs,
+                searches,
+                ..
+            } = self.counts;
+            println!(rt; "graph {graphs} after search {searches}: {difference:?}")?;
         }
+        Ok(())
     }
 }
 
 fn main(rt: HostRuntime) -> io::Result<()> {
-    let mut counts = Counts::NONE;
-    let mut memory = Memory::new(rt.alloc())?;
-    for sketch in picked() {
-        compare(&rt, &mut counts, &mut memory, sketch)?;
+    let mut comparison = Comparison {
+        memory: Memory::new(rt.alloc())?,
+        counts: Counts::NONE,
+    };
+    for told in PICKED {
+        comparison.compare(&rt, &picked::sketch(told))?;
     }
     let mut random = Random { state: 1 };
-    let sizes = (1..=MOST).flat_map(|tasks| (1..=3).map(move |machines| (tasks, machines)));
-    for (tasks, machines) in sizes {
-        for _ in 0..SAMPLES {
-            compare(
-                &rt,
-                &mut counts,
-                &mut memory,
-                random.sketch(tasks, machines),
-            )?;
+    for tasks in 1..=MOST {
+        for machines in 1..=3 {
+            for _ in 0..SAMPLES {
+                comparison.compare(&rt, &random.sketch(tasks, machines))?;
+            }
         }
     }
-    println!(rt; "{counts}")
+    comparison.counts.print(&rt)
 }

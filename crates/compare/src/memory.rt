@@ -26,7 +26,7 @@ impl Memory {
         let entry = Entry { bound: 7, node: 77 };
         let cell = Cell { entry, next: 777 };
         Ok(Memory {
-            table: Table::new(heap, vec![in heap; node; NODES]?).map_err(|(fault, _)| fault)?,
+            table: Table::new(heap, vec![in heap; node; NODES]?).or(Err(AllocError))?,
             slots: vec![in heap; entry; NODES]?,
             cells: vec![in heap; cell; NODES]?,
         })

@@ -3,7 +3,7 @@ ghost use Rattle.std.specs.Prelude.{◌<◌};
 use crate::sketch::{MOST, Sketch, TINY};
 
 // A random generator by its state.
-#[derive(Clone, Copy, PartialEq, Eq, Debug)]
+#[derive(Clone, Copy)]
 pub(crate) struct Random {
     pub(crate) state: u32,
 }

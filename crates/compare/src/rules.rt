@@ -1,61 +1,50 @@
-ghost use Rattle.std.specs.Prelude.{◌≤◌, ◌^◌};
-
 use crate::sketch::Sketch;
 use partial::placement::Placement;
 
-// A task with its row.
-#[derive(Clone, Copy)]
-pub(crate) struct Placed {
-    pub(crate) task: usize,
-    pub(crate) row: Placement,
-}
-
-impl Placed {
-    pub(crate) fn finish(&self, sketch: &Sketch) -> u64
-        ensures { result ≤ 2 ^ 33 }
-    {
-        u64::from(self.row.start) + u64::from(sketch.work(self.task))
+// The rules of a schedule, told once more and by this program alone: it compares the planner with them.
+impl Sketch {
+    // When a task that is placed so is done.
+    pub(crate) fn finish(&self, t: usize, row: Placement) -> u64 {
+        u64::from(row.start).saturating_add(u64::from(self.work(t)))
     }
 
-    // When the data of this task is there for a task on a machine, if it has data from it.
-    pub(crate) fn arrival(&self, sketch: &Sketch, task: usize, machine: u8) -> Option<u64> {
-        let cost = sketch.cost(self.task, task)?;
-        let delay = if self.row.machine == machine { 0 } else { cost };
-        Some(self.finish(sketch) + u64::from(delay))
+    // When what task t waits for of task u is on a machine, where u is placed so.
+    pub(crate) fn arrival(&self, u: usize, row: Placement, t: usize, machine: u8) -> u64 {
+        match self.cost(u, t) {
+            None => 0,
+            Some(_) if row.machine == machine => self.finish(u, row),
+            Some(cost) => self.finish(u, row).saturating_add(u64::from(cost)),
+        }
     }
 
-    // Whether another task's data is there when this one starts, and the two do not run at once on one machine.
-    fn bears(&self, sketch: &Sketch, other: &Placed) -> bool {
-        let is_fed = other
-            .arrival(sketch, self.task, self.row.machine)
-            .is_none_or(|arrival| arrival <= u64::from(self.row.start));
-        let is_apart = self.task == other.task
-            || self.row.machine != other.row.machine
-            || other.finish(sketch) <= u64::from(self.row.start)
-            || self.finish(sketch) <= u64::from(other.row.start);
+    // Whether task t starts when the data of task u is there, and the two do not run at once on one machine.
+    fn bears(&self, t: usize, row: Placement, u: usize, before: Placement) -> bool {
+        let is_fed = self.arrival(u, before, t, row.machine) <= u64::from(row.start);
+        let is_apart = u == t
+            || before.machine != row.machine
+            || self.finish(u, before) <= u64::from(row.start)
+            || self.finish(t, row) <= u64::from(before.start);
         is_fed && is_apart
     }
 
-    // Whether this task obeys the rules among the rows of all.
-    fn obeys(&self, sketch: &Sketch, rows: &[Placement]) -> bool {
-        self.row.machine < sketch.machines
-            && rows.iter().enumerate().all(|(task, row)| self.bears(
-                sketch,
-                &Placed { task, row: *row },
-            ))
+    // Whether the rows are a schedule that obeys the rules.
+    pub(crate) fn is_obeyed(&self, rows: &[Placement]) -> bool {
+        for t in 0..rows.len() {
+            for u in 0..rows.len() {
+                if rows[t].machine >= self.machines || !self.bears(t, rows[t], u, rows[u]) {
+                    return false;
+                }
+            }
+        }
+        true
     }
-}
 
-// Whether the rows are a schedule that obeys the rules.
-pub(crate) fn do_obey(sketch: &Sketch, rows: &[Placement]) -> bool {
-    rows.iter().enumerate().all(|(task, row)| Placed { task, row: *row }.obeys(sketch, rows))
-}
-
-// The greatest finish.
-pub(crate) fn makespan(sketch: &Sketch, rows: &[Placement]) -> u64 {
-    rows.iter()
-        .enumerate()
-        .map(|(task, row)| Placed { task, row: *row }.finish(sketch))
-        .max()
-        .unwrap_or(0)
+    // The greatest finish.
+    pub(crate) fn makespan(&self, rows: &[Placement]) -> u64 {
+        let mut makespan = 0;
+        for (t, row) in rows.iter().enumerate() {
+            makespan = self.finish(t, *row).max(makespan);
+        }
+        makespan
+    }
 }

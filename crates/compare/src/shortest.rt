@@ -1,5 +1,5 @@
 // The shortest of the schedules that were tried, and how many they were.
-#[derive(Clone, Copy, PartialEq, Eq, Debug)]
+#[derive(Clone, Copy)]
 pub(crate) struct Shortest {
     pub(crate) length: u64,
     pub(crate) tried: u64,
