@@ -35,14 +35,10 @@ impl Counts {
         differences: 0,
     };
 
-    // All left-shifted schedules of a graph were tried.
-    pub(crate) fn add_graph(&mut self, left_shifted: Shortest) {
+    // A graph's schedules were tried: all that are left-shifted, and those with any start.
+    pub(crate) fn add_graph(&mut self, left_shifted: Shortest, any_start: Shortest) {
         self.graphs = self.graphs.saturating_add(1);
         self.left_shifted = self.left_shifted.saturating_add(left_shifted.tried);
-    }
-
-    // All schedules of a graph with any start were tried.
-    pub(crate) fn add_any_start(&mut self, any_start: Shortest) {
         self.any_start = self.any_start.saturating_add(any_start.tried);
     }
 
@@ -71,30 +67,25 @@ impl Counts {
         self.differences = self.differences.saturating_add(1);
     }
 
+    // Each number behind the words that tell what it counts.
     pub(crate) fn print(&self, rt: &impl Print) -> io::Result<()> {
-        let Counts {
-            graphs,
-            longer,
-            left_shifted,
-            any_start,
-            searches,
-            tally,
-            differences,
-        } = *self;
-        let Tally {
-            expanded,
-            generated,
-            stored,
-            duplicates,
-            pruned,
-            complete,
-            waiting,
-        } = tally;
-        println!(rt; "graphs {graphs}, list schedule longer in {longer}")?;
-        println!(rt; "schedules left-shifted {left_shifted}, with any start {any_start}")?;
-        println!(rt; "searches {searches}, steps {expanded}, children {generated}")?;
-        print!(rt; "stored {stored}, duplicates {duplicates}, ")?;
-        println!(rt; "pruned {pruned}, complete {complete}, waiting {waiting}")?;
-        println!(rt; "differences {differences}")
+        for (words, number) in [
+            ("graphs ", self.graphs),
+            (", list schedule longer in ", self.longer),
+            ("\nschedules left-shifted ", self.left_shifted),
+            (", with any start ", self.any_start),
+            ("\nsearches ", self.searches),
+            (", steps ", self.tally.expanded),
+            (", children ", self.tally.generated),
+            ("\nstored ", self.tally.stored),
+            (", duplicates ", self.tally.duplicates),
+            (", pruned ", self.tally.pruned),
+            (", complete ", self.tally.complete),
+            (", waiting ", self.tally.waiting),
+            ("\ndifferences ", self.differences),
+        ] {
+            print!(rt; "{words}{number}")?;
+        }
+        println!(rt; "")
     }
 }

@@ -11,6 +11,7 @@ use crate::memory::Memory;
 use crate::picked::PICKED;
 use crate::random::Random;
 use crate::run_file::run_file;
+use crate::shortest::Shortest;
 use crate::sketch::{MOST, Sketch, TINY};
 use crate::zero_bound::ZeroBound;
 use bounds::arrival_bound::ArrivalBound;
@@ -93,13 +94,15 @@ impl Comparison {
     // The shortest length of all schedules of a sketch. Of the tiniest ones every start is tried too: none is shorter.
     fn try_schedules(&mut self, sketch: &Sketch) -> Result<u64, Difference> {
         let left_shifted = shortest_left_shifted(sketch);
-        self.counts.add_graph(left_shifted);
-        if sketch.tasks <= TINY {
-            let any_start = shortest_of_all(sketch);
-            self.counts.add_any_start(any_start);
-            if any_start.length != left_shifted.length {
-                return Err(Difference::Shorter);
-            }
+        let is_tiny = sketch.tasks <= TINY;
+        let any_start = if is_tiny {
+            shortest_of_all(sketch)
+        } else {
+            Shortest::NONE
+        };
+        self.counts.add_graph(left_shifted, any_start);
+        if is_tiny && any_start.length != left_shifted.length {
+            return Err(Difference::Shorter);
         }
         Ok(left_shifted.length)
     }

@@ -25,8 +25,11 @@ impl Memory {
         };
         let entry = Entry { bound: 7, node: 77 };
         let cell = Cell { entry, next: 777 };
+        let Ok(table) = Table::new(heap, vec![in heap; node; NODES]?) else {
+            return Err(AllocError);
+        };
         Ok(Memory {
-            table: Table::new(heap, vec![in heap; node; NODES]?).or(Err(AllocError))?,
+            table,
             slots: vec![in heap; entry; NODES]?,
             cells: vec![in heap; cell; NODES]?,
         })
