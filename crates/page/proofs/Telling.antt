@@ -1,6 +1,7 @@
-use Rattle.std.proofs.Common.{◌≡◌, ℕ, ◌≤◌, Bool, true, false, cond, ◌&&◌, List, ◌++◌, length, drop, Some, None, Option, Ok, Result, refl, ap, ◌∙◌, Err, is_ok, arith}
+use Rattle.std.proofs.Common.{◌≡◌, ℕ, ◌≤◌, Bool, true, false, cond, ◌&&◌, List, ◌++◌, length, drop, Some, None, Option, Ok, Result, refl, ap, ◌∙◌, Err, is_ok, arith, take, codes, IfOk, sym, subst}
 use borrow.Author.Clash.{clash}
 use Rattle.std.proofs.lemmas.Bool.{le-ltb}
+use Rattle.std.proofs.Math.Seq.{take-append_seam}
 use Rattle.model.specs.Graph.{Graph}
 use Rattle.model.specs.Nodes.{node_at}
 use Rattle.loader.specs.declared.graph.TaskGraph.{TaskGraph}
@@ -14,7 +15,7 @@ use Rattle.search.specs.declared.fault.PageFault.{PageFault}
 use Rattle.search.specs.declared.fault.PageFault.TheVariants.{Search, Short}
 use Rattle.search.specs.Calls.{is_best, best_fault, floor_fault, answer_or, left_or, with_rows}
 use Rattle.search.specs.Runs.{Moment}
-use Rattle.search.specs.Promise.{floor, InRun}
+use Rattle.search.specs.Promise.{floor, IsShortest, InRun}
 use Rattle.search.specs.Promise as promise
 use Rattle.loader.proofs.Laws.{the_lawful}
 use Rattle.refusal.specs.Refusing.{Refuses}
@@ -23,7 +24,7 @@ use Rattle.search.specs.Refused.{WriteRefused}
 use Rattle.search.proofs.Refusing.{refuses-by, write-tells}
 use Rattle.search.proofs.Calls.{promised-to}
 use Rattle.page.specs.Texts.{report_text}
-use Rattle.page.specs.Pages.{closing_of, page_of, text_of, short_fault, page_fault, Truthful, EndsTruly}
+use Rattle.page.specs.Pages.{closing_of, page_of, text_of, short_fault, page_fault, Truthful, LastWord, EndsAs}
 use Rattle.search.proofs.Written.{rows-agree}
 use Rattle.page.proofs.Texts.{text-agrees}
 use Rattle.page.proofs.LastWords.{closed-by, not-both}
@@ -95,17 +96,32 @@ module _ (g : TaskGraph) (settled done : Bool) (m : Moment) (r : InRun (the_grap
       → (result ≡ Ok (length (text_of (the_graph g) settled m))) × Truthful done (page_of (the_graph g) settled m)
   run-told room result is h = (is ∙ ap (answer_or _) (nothing-refused room h), truthful)
 
--- in a run a search that goes on ends with open, and a settled one with shortest, which is so
-pub ends-open : (g : TaskGraph) (m : Moment) → InRun (the_graph g) false m → EndsTruly false (page_of (the_graph g) false m)
-ends-open g m r =
-    let last = closed-by (page_of (the_graph g) false m) in
-    let never_shortest = not-both _ last in
-    record { says_shortest = ((λ x. absurd (never_shortest x)), (λ e. cc)); says_open = ((λ x. refl), (λ e. last)); is_shortest = λ x. absurd (never_shortest x) }
+-- a search that goes on ends with open, and a settled one with shortest
+pub ends-open : (g : Graph) (m : Moment) → EndsAs false (text_of g false m)
+ends-open g m =
+    let last = closed-by (page_of g false m) in
+    record { shortest = ((λ x. absurd (not-both _ last x)), (λ e. cc)); going_on = ((λ x. refl), (λ e. last)) }
 
-pub ends-shortest : (g : TaskGraph) (m : Moment) → InRun (the_graph g) true m → EndsTruly true (page_of (the_graph g) true m)
-ends-shortest g m r =
-    let last = closed-by (page_of (the_graph g) true m) in
-    record { says_shortest = ((λ x. refl), (λ e. last)); says_open = ((λ x. absurd (not-both _ x last)), (λ e. cc)); is_shortest = λ x. (truthful g true true m r).shortest refl }
+pub ends-shortest : (g : Graph) (m : Moment) → EndsAs true (text_of g true m)
+ends-shortest g m =
+    let last = closed-by (page_of g true m) in
+    record { shortest = ((λ x. refl), (λ e. last)); going_on = ((λ x. absurd (not-both _ x last)), (λ e. cc)) }
+
+-- in a run what ends with shortest is
+pub never-shortest : {C : Type 0} (g : Graph) (m : Moment) → LastWord (text_of g false m) (codes "shortest") → C
+never-shortest g m x = absurd (not-both _ (closed-by (page_of g false m)) x)
+
+pub is-shortest : (g : TaskGraph) (m : Moment) → InRun (the_graph g) true m → IsShortest (the_graph g) (promise.best m)
+is-shortest g m r = (truthful g true true m r).shortest refl
+
+-- the last line of what is written
+pub last-written : (text word : List ℕ) (o : Option PageFault) (old new : List ℕ) (r : Result ℕ PageFault)
+    → r ≡ answer_or (length text) o → new ≡ left_or (text ++ drop (length text) old) old o → LastWord text word → IfOk r (λ n. LastWord (take n new) word)
+last-written text word o old new r e w l = rw e (go o w)
+  where
+    go : (o : Option PageFault) → new ≡ left_or (text ++ drop (length text) old) old o → IfOk (answer_or (length text) o) (λ n. LastWord (take n new) word)
+    go (Some f) w = tt
+    go None w = subst (λ t. LastWord t word) (sym (ap (take (length text)) w ∙ take-append_seam text (drop (length text) old))) l
 
 -- and a page is refused as it says
 pub page-refuses : (g : TaskGraph) (settled : Bool) (m : Moment) (room : ℕ) (result : Result ℕ PageFault)

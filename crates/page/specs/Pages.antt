@@ -55,9 +55,7 @@ pub record Truthful (done : Bool) (p : Page) : Type 0 where
 abbrev pub LastWord : List ℕ → List ℕ → Type 0
 LastWord text word = (front : List ℕ) × (text ≡ front ++ 10 ∷ (word ++ 10 ∷ []))
 
--- how the text of a page ends: with shortest exactly where the search is settled, else with open; and where it ends with
--- shortest, no feasible schedule is shorter than the one that it tells
-pub record EndsTruly (settled : Bool) (p : Page) : Type 0 where
-  pub says_shortest : LastWord (report_text p) (codes "shortest") ↔ (settled ≡ true)
-  pub says_open : LastWord (report_text p) (codes "open") ↔ (settled ≡ false)
-  pub is_shortest : LastWord (report_text p) (codes "shortest") → IsShortest p.graph p.schedule
+-- a text ends with the word shortest exactly where the search is settled, else with open
+pub record EndsAs (settled : Bool) (text : List ℕ) : Type 0 where
+  pub shortest : LastWord text (codes "shortest") ↔ (settled ≡ true)
+  pub going_on : LastWord text (codes "open") ↔ (settled ≡ false)

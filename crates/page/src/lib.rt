@@ -3,6 +3,7 @@
 mod closing;
 mod open_page;
 pub mod page;
+pub mod pages;
 mod report;
 mod sheet;
 mod short_buffer;

@@ -1,4 +1,4 @@
-ghost use Rattle.std.specs.Prelude.{◌≡◌, ◌≤◌, ◌++◌, Bool, length, drop, Ok};
+ghost use Rattle.std.specs.Prelude.{◌≡◌, ◌≤◌, ◌++◌, Bool, length, drop, codes, Ok};
 ghost use Rattle.loader.specs.Meaning.{the_graph};
 ghost use Rattle.search.specs.declared.search.Search.{Search};
 ghost use Rattle.search.specs.Calls.{answer_or, left_or};
@@ -6,8 +6,8 @@ ghost use Rattle.search.specs.States.{moment};
 ghost use Rattle.refusal.specs.Refusing.{Refuses};
 ghost use Rattle.search.specs.Refusals.{page_refusal};
 ghost use Rattle.search.specs.Refused.{WriteRefused};
-ghost use Rattle.search.specs.Promise.{Promised, InRun};
-ghost use Rattle.page.specs.Pages.{page_of, text_of, page_fault, Truthful, EndsTruly};
+ghost use Rattle.search.specs.Promise.{best, IsShortest, Promised, InRun};
+ghost use Rattle.page.specs.Pages.{page_of, text_of, page_fault, Truthful, LastWord, EndsAs};
 
 use loader::graph::TaskGraph;
 use nodes::table::Table;
@@ -26,7 +26,7 @@ pub trait Page {
     // The search whose counts it has.
     ghost counts: { Self → Search };
 
-    // Whether its page ends with the word shortest.
+    // Whether a search of this type was settled.
     ghost settled: { Bool };
 
     // Writes the page to the front of the buffer and answers its length; what lies behind it stays. In a run it is
@@ -60,8 +60,12 @@ pub trait Page {
             × Truthful done (page_of (the_graph g.now) settled m) }
         ensures ending { let m = moment (counts self.now) table.now (L.bag list.old)
             (L.limit list.old) in
+            EndsAs settled (text_of (the_graph g.now) settled m) }
+        ensures shortest { let m = moment (counts self.now) table.now (L.bag list.old)
+            (L.limit list.old) in
             InRun (the_graph g.now) settled m
-            → EndsTruly settled (page_of (the_graph g.now) settled m) }
+            → LastWord (text_of (the_graph g.now) settled m) (codes "shortest")
+            → IsShortest (the_graph g.now) (best m) }
         ensures room { let m = moment (counts self.now) table.now (L.bag list.old)
             (L.limit list.old) in
             (done : Bool) → InRun (the_graph g.now) done m

@@ -7,7 +7,7 @@ use Rattle.search.specs.Runs.{Moment}
 use Rattle.search.specs.States.{moment}
 use Rattle.search.proofs.Calls.{promised-to}
 use Rattle.page.specs.declared.page.TheConstants.{BLANK}
-use Rattle.page.proofs.Telling.{never, roomy, page-told, run-told, page-refuses, ends-open}
+use Rattle.page.proofs.Telling.{never, roomy, page-told, run-told, page-refuses, ends-open, never-shortest}
 use Rattle.page.proofs.open_page.SearchPage.page.Goals as goal
 
 pub returns-in_err-length-clause-run : goal.returns-in_err-length-clause-run
@@ -25,7 +25,8 @@ returns g c =
       same = search rules;
       run = λ done r h. run-told c.args.g.now false done _ r (length c.args.buffer.now) _ told.0 h;
       room = λ done r. roomy _ false m _ BLANK _ _ _ best c.best.ensures.rows low c.tally.ensures.is c.write.ensures.room;
-      ending = ends-open c.args.g.now m;
+      ending = ends-open (the_graph c.args.g.now) m;
+      shortest = λ r x. never-shortest (the_graph c.args.g.now) m x;
       promise = promised-to c.args.g.now;
     }
 
@@ -40,10 +41,16 @@ returns-in_err-floor-clause-room g c done r =
     never _ _ (sym (c.floor.ensures.run done again).0 ∙ c.in_err-floor.was)
 
 pub returns-in_err-length-clause-ending : goal.returns-in_err-length-clause-ending
-returns-in_err-length-clause-ending g c r = ends-open c.args.g.now _ r
+returns-in_err-length-clause-ending g c = ends-open (the_graph c.args.g.now) (moment c.args.self.now c.args.table.now (g.L.OpenList.bag c.args.list.now) (g.L.OpenList.limit c.args.list.now))
+
+pub returns-in_err-length-clause-shortest : goal.returns-in_err-length-clause-shortest
+returns-in_err-length-clause-shortest g c r x = never-shortest (the_graph c.args.g.now) (moment c.args.self.now c.args.table.now (g.L.OpenList.bag c.args.list.now) (g.L.OpenList.limit c.args.list.now)) x
 
 pub returns-in_err-floor-clause-ending : goal.returns-in_err-floor-clause-ending
-returns-in_err-floor-clause-ending g c r = ends-open c.args.g.now _ r
+returns-in_err-floor-clause-ending g c = ends-open (the_graph c.args.g.now) (moment c.args.self.now c.args.table.now (g.L.OpenList.bag c.args.list.now) (g.L.OpenList.limit c.args.list.now))
+
+pub returns-in_err-floor-clause-shortest : goal.returns-in_err-floor-clause-shortest
+returns-in_err-floor-clause-shortest g c r x = never-shortest (the_graph c.args.g.now) (moment c.args.self.now c.args.table.now (g.L.OpenList.bag c.args.list.now) (g.L.OpenList.limit c.args.list.now)) x
 
 pub returns-in_err-length-clause-refused : goal.returns-in_err-length-clause-refused
 returns-in_err-length-clause-refused g c = page-refuses c.args.g.now false (moment c.args.self.now c.args.table.now (g.L.OpenList.bag c.args.list.now) (g.L.OpenList.limit c.args.list.now)) (length c.args.buffer.now) _ (search rules)

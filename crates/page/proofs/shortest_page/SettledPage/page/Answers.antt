@@ -7,7 +7,7 @@ use Rattle.search.specs.Runs.{Moment}
 use Rattle.search.specs.States.{moment, search_of}
 use Rattle.search.proofs.Calls.{promised-to, floor-run, best-run}
 use Rattle.page.specs.declared.page.TheConstants.{BLANK}
-use Rattle.page.proofs.Telling.{never, roomy, page-told, run-told, page-refuses, ends-shortest}
+use Rattle.page.proofs.Telling.{never, roomy, page-told, run-told, page-refuses, ends-shortest, is-shortest}
 use Rattle.page.proofs.shortest_page.SettledPage.page.Goals as goal
 
 pub returns-in_err-length-clause-run : goal.returns-in_err-length-clause-run
@@ -25,7 +25,8 @@ returns g c =
       same = search rules;
       run = λ done r h. run-told c.args.g.now true done _ r (length c.args.buffer.now) _ told.0 h;
       room = λ done r. roomy _ true m _ BLANK _ _ _ best c.best.ensures.rows low c.tally.ensures.is c.write.ensures.room;
-      ending = ends-shortest c.args.g.now m;
+      ending = ends-shortest (the_graph c.args.g.now) m;
+      shortest = λ r x. is-shortest c.args.g.now m r;
       promise = promised-to c.args.g.now;
     }
 
@@ -40,10 +41,16 @@ returns-in_err-floor-clause-room g c done r =
     never _ _ (sym (c.floor.ensures.is ∙ (floor-run c.args.g.now done _ again).0) ∙ c.in_err-floor.was)
 
 pub returns-in_err-length-clause-ending : goal.returns-in_err-length-clause-ending
-returns-in_err-length-clause-ending g c r = ends-shortest c.args.g.now _ r
+returns-in_err-length-clause-ending g c = ends-shortest (the_graph c.args.g.now) (moment (search_of c.args.self.now) c.args.table.now (g.L.OpenList.bag c.args.list.now) (g.L.OpenList.limit c.args.list.now))
+
+pub returns-in_err-length-clause-shortest : goal.returns-in_err-length-clause-shortest
+returns-in_err-length-clause-shortest g c r x = is-shortest c.args.g.now (moment (search_of c.args.self.now) c.args.table.now (g.L.OpenList.bag c.args.list.now) (g.L.OpenList.limit c.args.list.now)) r
 
 pub returns-in_err-floor-clause-ending : goal.returns-in_err-floor-clause-ending
-returns-in_err-floor-clause-ending g c r = ends-shortest c.args.g.now _ r
+returns-in_err-floor-clause-ending g c = ends-shortest (the_graph c.args.g.now) (moment (search_of c.args.self.now) c.args.table.now (g.L.OpenList.bag c.args.list.now) (g.L.OpenList.limit c.args.list.now))
+
+pub returns-in_err-floor-clause-shortest : goal.returns-in_err-floor-clause-shortest
+returns-in_err-floor-clause-shortest g c r x = is-shortest c.args.g.now (moment (search_of c.args.self.now) c.args.table.now (g.L.OpenList.bag c.args.list.now) (g.L.OpenList.limit c.args.list.now)) r
 
 pub returns-in_err-length-clause-refused : goal.returns-in_err-length-clause-refused
 returns-in_err-length-clause-refused g c = page-refuses c.args.g.now true (moment (search_of c.args.self.now) c.args.table.now (g.L.OpenList.bag c.args.list.now) (g.L.OpenList.limit c.args.list.now)) (length c.args.buffer.now) _ (search rules)
