@@ -10,7 +10,7 @@ use Rattle.loader.specs.View.{leads}
 use Rattle.schedule.specs.ListSchedule.{listed, next_task, earliest}
 use Rattle.astar.specs.Expansion.{visited, expanded}
 use Rattle.astar.specs.Advance.{advanced}
-use Rattle.cases.specs.Table.{FilesRead, Levels, ListSchedule, Bounds, Checks, Overlaps, Refused, Searches, ExampleSearched, Numbers, Wordings, ExamplePage, OpenPage, WithDuplicates, FiveTasks}
+use Rattle.cases.specs.Table.{FilesRead, Levels, ListSchedule, Bounds, Checks, Overlaps, Refused, Searches, ExampleSearched, Rounds, Numbers, Wordings, ExamplePage, OpenPage, WithDuplicates, FiveTasks}
 use Rattle.std.specs.Fmt.{digits}
 use Rattle.page.specs.Texts.{report_text}
 
@@ -49,6 +49,10 @@ searches = ((refl, refl, refl), refl, (refl, refl, refl, refl))
 pub example-searched : ExampleSearched
 unfolding any first level listed next_task earliest normal_form append tried choices is_duplicate is_held is_orderly is_complete visited expanded advanced
 example-searched = (refl, refl, refl, refl)
+
+pub rounds : Rounds
+unfolding any first level listed next_task earliest normal_form append tried choices is_duplicate is_held is_orderly is_complete visited expanded advanced
+rounds = (refl, refl, refl, refl, refl)
 
 pub numbers : Numbers
 numbers = ((refl, refl, refl, refl, refl, refl, refl, refl), (refl, refl, refl, refl), (refl, refl, refl), (refl, refl, refl, refl, refl))

@@ -31,6 +31,7 @@ use Rattle.search.specs.declared.fault.PageFault.TheVariants as page_faults
 use Rattle.search.specs.Refusals.{search_refusal, page_refusal}
 use Rattle.refusal.specs.Wording.{wording}
 use Rattle.search.specs.Runs.{Moment}
+use Rattle.solve.specs.Solving.{ended}
 use Rattle.page.specs.Pages.{text_of}
 
 abbrev transfer : ℕ → ℕ → ℕ → Transfer
@@ -207,6 +208,15 @@ ExampleSearched =
     })
     × (floor (searched example 256 10000).0 ≡ 8)
     × (best_length (searched example 256 10000).0 ≡ 8)
+
+-- calls of advance, each with budget 2, until the example is searched to its end
+abbrev expanded_in : ℕ → ℕ
+expanded_in n = (ended (described example) joined_bound (replicate 256 no_node) 256 2 n).state.tally.expanded
+
+abbrev pub Rounds : Type 0
+Rounds =
+    (expanded_in 0 ≡ 0) × (expanded_in 1 ≡ 2) × (expanded_in 2 ≡ 4) × (expanded_in 3 ≡ 5)
+    × (expanded_in 4 ≡ 5)
 
 -- each refusal by number, place and layer
 abbrev pub Numbers : Type 0

@@ -1,4 +1,4 @@
-ghost use Rattle.cases.specs.Table.{FilesRead, Levels, ListSchedule, Bounds, Checks, Overlaps, Refused, Searches, ExampleSearched, Numbers, Wordings, ExamplePage, OpenPage, WithDuplicates, FiveTasks};
+ghost use Rattle.cases.specs.Table.{FilesRead, Levels, ListSchedule, Bounds, Checks, Overlaps, Refused, Searches, ExampleSearched, Rounds, Numbers, Wordings, ExamplePage, OpenPage, WithDuplicates, FiveTasks};
 
 // The worked cases, as equalities that the checker computes.
 pub fn worked_cases()
@@ -11,6 +11,7 @@ pub fn worked_cases()
     ensures refused { Refused }
     ensures searches { Searches }
     ensures searched { ExampleSearched }
+    ensures rounds { Rounds }
     ensures numbers { Numbers }
     ensures wordings { Wordings }
     ensures page { ExamplePage }
