@@ -1,5 +1,5 @@
 use Rattle.std.proofs.Common.{ap}
-use Rattle.astar.specs.States.{SearchState, entry}
+use Rattle.astar.specs.States.{SearchState}
 use Rattle.search.proofs.Keeping.{kept_put}
 use Rattle.search.proofs.expand.keep_or_drop.Goals as goal
 
