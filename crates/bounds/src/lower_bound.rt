@@ -8,8 +8,8 @@ ghost use Rattle.partial.specs.Meaning.{the_partial};
 use loader::graph::TaskGraph;
 use partial::partial::PartialSchedule;
 
-// A rule that gives every graph and partial schedule a number. Of a partial schedule that is reachable no
-// completion is shorter than the number.
+// A rule that gives every graph and partial schedule a number. Of a partial schedule that is reachable and places no task
+// which the graph lacks, no completion is shorter than the number.
 pub trait LowerBound {
     ghost number: { Self → Bound };
 
