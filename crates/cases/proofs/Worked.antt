@@ -10,9 +10,12 @@ use Rattle.loader.specs.View.{leads}
 use Rattle.schedule.specs.ListSchedule.{listed, next_task, earliest}
 use Rattle.astar.specs.Expansion.{visited, expanded}
 use Rattle.astar.specs.Advance.{advanced}
-use Rattle.cases.specs.Table.{FilesRead, Levels, ListSchedule, Bounds, Checks, Overlaps, Refused, Searches, ExampleSearched, Rounds, Numbers, Wordings, ExamplePage, OpenPage, WithDuplicates, FiveTasks}
+use Rattle.cases.specs.Table.{NewGraph, FilesRead, Levels, ListSchedule, Bounds, Checks, Overlaps, Refused, Searches, ExampleSearched, Rounds, Numbers, Wordings, ExamplePage, FirstTests, OpenPage, WithDuplicates, BestStays, FiveTasks}
 use Rattle.std.specs.Fmt.{digits}
 use Rattle.page.specs.Texts.{report_text}
+
+pub new-graph : NewGraph
+new-graph = refl
 
 pub files-read : FilesRead
 unfolding any first leads
@@ -57,6 +60,10 @@ rounds = (refl, refl, refl, refl, refl)
 pub numbers : Numbers
 numbers = ((refl, refl, refl, refl, refl, refl, refl, refl), (refl, refl, refl, refl), (refl, refl, refl), (refl, refl, refl, refl, refl))
 
+pub first-tests : FirstTests
+unfolding any first level listed next_task earliest normal_form append tried choices is_duplicate is_held is_orderly is_complete visited expanded advanced report_text digits
+first-tests = (refl, refl, refl, refl, refl, refl, refl, refl, refl, refl, refl)
+
 pub example-page : ExamplePage
 unfolding any first level listed next_task earliest normal_form append tried choices is_duplicate is_held is_orderly is_complete visited expanded advanced report_text digits
 example-page = refl
@@ -68,6 +75,10 @@ open-page = refl
 pub with-duplicates : WithDuplicates
 unfolding any first level listed next_task earliest normal_form append tried choices is_duplicate is_held is_orderly is_complete visited expanded advanced
 with-duplicates = ((refl, refl, refl), (refl, refl, refl))
+
+pub best-stays : BestStays
+unfolding any first level listed next_task earliest normal_form append tried choices is_duplicate is_held is_orderly is_complete visited expanded advanced
+best-stays = (refl, refl)
 
 pub five-tasks : FiveTasks
 unfolding any first level listed next_task earliest normal_form append tried choices is_duplicate is_held is_orderly is_complete visited expanded advanced

@@ -1,14 +1,15 @@
-use Rattle.std.specs.Prelude.{◌≡◌, ◌==◌, ◌||◌, if◌then◌else◌, ℕ, true, false, List, [], ◌∷◌, ◌++◌, codes, Ok, Err, Result, replicate}
+use Rattle.std.specs.Prelude.{◌≡◌, ◌==◌, ◌||◌, if◌then◌else◌, ℕ, true, false, List, [], ◌∷◌, ◌++◌, codes, Some, None, Ok, Err, Result, replicate}
 use Rattle.model.specs.Graph.{Graph, level}
 use Rattle.model.specs.Partial.{Partial, nothing, whole}
 use Rattle.model.specs.Bounds.{path_bound, load_bound, arrival_bound, joined_bound}
-use Rattle.model.specs.Nodes.{no_node}
+use Rattle.model.specs.Nodes.{no_node, node_at}
 use Rattle.model.specs.Schedule.{makespan}
 use Rattle.refusal.specs.declared.layer.Layer.{Layer}
 use Rattle.refusal.specs.declared.refusal.Refusal.{Refusal}
 use Rattle.refusal.specs.declared.layer.Layer.TheVariants.{Bytes as BytesLayer, Records as RecordsLayer, Graph as GraphLayer, Search as SearchLayer, Check as CheckLayer, Page as PageLayer}
 use Rattle.loader.specs.declared.transfer.Transfer.{Transfer}
 use Rattle.loader.specs.Description.{Description, described}
+use Rattle.loader.specs.Meaning.{smallest}
 use Rattle.loader.specs.Chaining.{lifted}
 use Rattle.loader.specs.Parse.{parse}
 use Rattle.loader.specs.declared.faults.RecordsFault.TheVariants as record_faults
@@ -21,7 +22,7 @@ use Rattle.schedule.specs.Refusals.{check_refusal}
 use Rattle.astar.specs.declared.tally.Tally.{Tally}
 use Rattle.astar.specs.declared.outcome.Outcome.{Outcome}
 use Rattle.astar.specs.declared.outcome.Outcome.TheVariants.{Met, Paused, Full}
-use Rattle.astar.specs.States.{SearchState, best_length}
+use Rattle.astar.specs.States.{SearchState, best_length, best_schedule}
 use Rattle.astar.specs.Opening.{sizes_of, opened}
 use Rattle.astar.specs.Advance.{advanced}
 use Rattle.astar.specs.Laws.{floor}
@@ -30,9 +31,10 @@ use Rattle.search.specs.declared.fault.SearchFault.TheVariants as search_faults
 use Rattle.search.specs.declared.fault.PageFault.TheVariants as page_faults
 use Rattle.search.specs.Refusals.{search_refusal, page_refusal}
 use Rattle.refusal.specs.Wording.{wording}
-use Rattle.search.specs.Runs.{Moment}
+use Rattle.search.specs.Calls.{open_fault, settle_fault, best_fault}
+use Rattle.search.specs.Runs.{Moment, at_open}
 use Rattle.solve.specs.Solving.{ended}
-use Rattle.page.specs.Pages.{text_of}
+use Rattle.page.specs.Pages.{text_of, page_fault}
 
 abbrev transfer : ℕ → ℕ → ℕ → Transfer
 transfer a b c = record { from = a; to = b; cost = c }
@@ -103,6 +105,10 @@ work_of_1000 = 4 ∷ 0 ∷ 1 ∷ 0 ∷ 1 ∷ 0 ∷ 1 ∷ 0 ∷ 2 ∷ 0 ∷ 2 ∷
 
 abbrev pub work_of_1001 : List ℕ
 work_of_1001 = 4 ∷ 0 ∷ 1 ∷ 0 ∷ 1 ∷ 0 ∷ 1 ∷ 0 ∷ 2 ∷ 0 ∷ 2 ∷ 0 ∷ 233 ∷ 3 ∷ 0 ∷ 0 ∷ 4 ∷ 0 ∷ []
+
+-- what a new graph is, before a file is read
+abbrev pub NewGraph : Type 0
+NewGraph = smallest ≡ record { tasks = 1; machines = 1; works = 1 ∷ []; transfers = [] }
 
 -- what files tell
 abbrev pub FilesRead : Type 0
@@ -252,6 +258,27 @@ Wordings =
     × (wording (refused 14 2 CheckLayer) ≡ codes "refused 14 at 2 in check")
     × (wording (refused 16 0 PageLayer) ≡ codes "refused 16 at 0 in page")
 
+-- where two tests apply the first one counts: the example just opened with two nodes has floor 7 and best length 9, and a
+-- list of one place is not its own
+abbrev begun : Moment
+begun = at_open (described example) joined_bound (replicate 2 no_node) 2
+
+abbrev pub FirstTests : Type 0
+FirstTests =
+    (open_fault (replicate 1 no_node) begun.state.bag 0 ≡ Some search_faults.Table)
+    × (open_fault (replicate 2 no_node) begun.state.bag 2 ≡ Some search_faults.List)
+    × (open_fault (replicate 2 no_node) [] 1 ≡ Some search_faults.List)
+    × (open_fault (replicate 2 no_node) [] 2 ≡ None)
+    × (settle_fault (described example) begun.sizes begun.state 1 ≡ Some search_faults.Foreign)
+    × (settle_fault (described example) begun.sizes begun.state 2 ≡ Some search_faults.Unsettled)
+    × (best_fault (described example) begun.sizes begun.state 1 3
+    ≡ Some (page_faults.Search search_faults.Foreign))
+    × (best_fault (described example) begun.sizes begun.state 2 3 ≡ Some page_faults.Short)
+    × (best_fault (described example) begun.sizes begun.state 2 4 ≡ None)
+    × (page_fault (described example) false (record begun { limit = 1 }) 0
+    ≡ Some (page_faults.Search search_faults.Foreign))
+    × (page_fault (described example) false begun 0 ≡ Some page_faults.Short)
+
 -- the page of the example, searched to its end and settled
 abbrev example_end : Moment
 example_end = record {
@@ -337,6 +364,12 @@ abbrev pub WithDuplicates : Type 0
 WithDuplicates =
     Ends three 100 (record { expanded = 7; generated = 21; stored = 6; duplicates = 3; pruned = 6; complete = 6; waiting = 0 }) 5
     × Ends fork 100 (record { expanded = 3; generated = 7; stored = 4; duplicates = 0; pruned = 1; complete = 2; waiting = 2 }) 5
+
+-- the list schedule, in which task 0 comes last, is as long as the shortest, so that it stays the best; node 0 does not wait
+abbrev pub BestStays : Type 0
+BestStays =
+    ((best_schedule (searched three 400 100).0).start 0 ≡ 3)
+    × ((node_at (searched three 400 100).0.nodes 0).waiting ≡ false)
 
 abbrev pub FiveTasks : Type 0
 FiveTasks = Ends five 100 (record { expanded = 13; generated = 56; stored = 17; duplicates = 4; pruned = 29; complete = 6; waiting = 5 }) 9

@@ -1,7 +1,8 @@
-ghost use Rattle.cases.specs.Table.{FilesRead, Levels, ListSchedule, Bounds, Checks, Overlaps, Refused, Searches, ExampleSearched, Rounds, Numbers, Wordings, ExamplePage, OpenPage, WithDuplicates, FiveTasks};
+ghost use Rattle.cases.specs.Table.{NewGraph, FilesRead, Levels, ListSchedule, Bounds, Checks, Overlaps, Refused, Searches, ExampleSearched, Rounds, Numbers, Wordings, ExamplePage, FirstTests, OpenPage, WithDuplicates, BestStays, FiveTasks};
 
 // The worked cases, as equalities that the checker computes.
 pub fn worked_cases()
+    ensures new { NewGraph }
     ensures read { FilesRead }
     ensures levels { Levels }
     ensures list { ListSchedule }
@@ -16,6 +17,8 @@ pub fn worked_cases()
     ensures wordings { Wordings }
     ensures page { ExamplePage }
     ensures open_page { OpenPage }
+    ensures first { FirstTests }
     ensures duplicates { WithDuplicates }
+    ensures stays { BestStays }
     ensures five { FiveTasks }
 {}
