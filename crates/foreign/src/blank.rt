@@ -13,16 +13,12 @@ pub(crate) const ROW: Placement = Placement {
 
 pub(crate) const SLOT: Entry = Entry { bound: 7, node: 77 };
 
-// What stands in nodes before they are written.
-pub(crate) fn node() -> Node {
-    Node {
+// A table of so many nodes, and what stands in them before they are written.
+pub(crate) fn table(heap: Global, nodes: usize) -> Result<Table, AllocError> {
+    let node = Node {
         partial: PartialSchedule::empty(),
         bound: 0,
         status: Status::Expanded,
-    }
-}
-
-// A table of so many nodes.
-pub(crate) fn table(heap: Global, nodes: usize) -> Result<Table, AllocError> {
-    Table::new(heap, vec![in heap; node(); nodes]?).map_err(|(fault, _)| fault)
+    };
+    Table::new(heap, vec![in heap; node; nodes]?).map_err(|(fault, _)| fault)
 }

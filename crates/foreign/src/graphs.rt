@@ -20,27 +20,29 @@ const MACHINES: usize = 6;
 
 const LAST_WORK: usize = 30;
 
-fn read(file: &[u8]) -> anyhow::Result<TaskGraph> {
-    let mut graph = TaskGraph::new();
-    load(&mut graph, file).map_err(unreadable)?;
-    Ok(graph)
+// The graphs that are asked for.
+#[derive(Drop)]
+pub(crate) enum Draft {
+    Example,
+    // The example with a machine more.
+    Wider,
+    // The example with work 5 of task 3.
+    Longer,
+    // One task, as where no file is read.
+    Unread,
 }
 
-// The example.
-pub(crate) fn example() -> anyhow::Result<TaskGraph> {
-    read(EXAMPLE)
-}
-
-// The example with a machine more.
-pub(crate) fn wider() -> anyhow::Result<TaskGraph> {
-    let mut file = *EXAMPLE;
-    file[MACHINES] = 3;
-    read(&file)
-}
-
-// The example with work 5 of task 3.
-pub(crate) fn longer() -> anyhow::Result<TaskGraph> {
-    let mut file = *EXAMPLE;
-    file[LAST_WORK] = 5;
-    read(&file)
+impl Draft {
+    pub(crate) fn graph(&self) -> anyhow::Result<TaskGraph> {
+        let mut file = *EXAMPLE;
+        let mut graph = TaskGraph::new();
+        match self {
+            Draft::Example => (),
+            Draft::Wider => file[MACHINES] = 3,
+            Draft::Longer => file[LAST_WORK] = 5,
+            Draft::Unread => return Ok(graph),
+        }
+        load(&mut graph, &file).map_err(unreadable)?;
+        Ok(graph)
+    }
 }

@@ -1,12 +1,11 @@
 use crate::blank::SLOT;
-use crate::scene::Scene;
+use crate::scene::{Scene, TWO_STEPS};
 use crate::told::Told;
 use bounds::path_bound::PathBound;
 use loader::graph::TaskGraph;
 use nodes::table::Table;
 use page::page::Page;
 use queue::entry_heap::EntryHeap;
-use refusal::refusal::Refusal;
 
 // What a buffer holds before a page is written; no page has this byte.
 const FILL: u8 = 255;
@@ -23,13 +22,8 @@ fn tell_page<P: Page>(
 ) -> anyhow::Result<()> {
     let mut buffer = vec![in rt.alloc(); FILL; room]?;
     let written = page.page(graph, table, list, buffer.as_mut_slice());
-    let mut left = 0u64;
-    for byte in &buffer {
-        if *byte == FILL {
-            left = left.saturating_add(1);
-        }
-    }
-    let answer = Told(written.map(|n| n as u64).map_err(Refusal::from));
+    let answer = Told::number(written.map(|n| n as u64));
+    let left = buffer.iter().filter(|byte| **byte == FILL).count();
     println!(rt; "{name} in {room} bytes: {answer}, {left} left alone")?;
     Ok(())
 }
@@ -44,7 +38,7 @@ pub(crate) fn write_pages(rt: &(impl Print + AllocGlobal)) -> anyhow::Result<()>
         mut search,
         mut table,
         mut list,
-    } = Scene::two_steps(rt.alloc(), &mut slots)?;
+    } = Scene::new(rt.alloc(), &TWO_STEPS, &mut slots)?;
     for room in [0, 232, 233, 234, 300] {
         tell_page(rt, "open", &search, &graph, &table, &mut list, room)?;
     }

@@ -1,16 +1,25 @@
+use crate::advanced::Advanced;
+use crate::answers::Answers;
 use crate::blank::{ROW, table};
-use crate::graphs::example;
+use crate::graphs::Draft;
 use crate::told::{Told, unopened, word};
 use bounds::path_bound::PathBound;
 use loader::graph::TaskGraph;
-use nodes::node::Node;
 use nodes::table::Table;
 use queue::entry::Entry;
 use queue::entry_heap::EntryHeap;
 use refusal::refusal::Refusal;
 use search::search::Search;
-use std::alloc::{AllocError, Global};
-use std::{io, mem};
+use std::alloc::Global;
+
+// Where a scene comes from: a search of this graph in a table of so many nodes, so many steps on.
+#[derive(Drop)]
+pub(crate) struct Origin(pub(crate) Draft, pub(crate) usize, pub(crate) u64);
+
+// The scene that others change: the example's search in 11 nodes, two steps on. Of the 11 nodes, 0 holds the list
+// schedule of length 9; 1 and 2, which are expanded, place nothing and task 0; 3 and 4 place task 1 too, on machine 0
+// and 1, 5 and 6 task 2. These four wait, 3 and 5 with bound 7, 4 and 6 with bound 8; the entry of 5 comes first.
+pub(crate) const TWO_STEPS: Origin = Origin(Draft::Example, 11, 2);
 
 // A search with what is lent to it. Its rule is the path bound.
 #[derive(Drop)]
@@ -22,17 +31,18 @@ pub(crate) struct Scene<'a> {
 }
 
 impl Scene<'_> {
-    // A search of a graph in a table with a node for each slot, so many steps on.
-    pub(crate) fn new(
+    // A search in these slots.
+    pub(crate) fn new<'a>(
         heap: Global,
-        graph: TaskGraph,
-        slots: &mut [Entry],
-        steps: u64,
-    ) -> anyhow::Result<Scene<'_>> {
-        let mut table = table(heap, slots.len())?;
+        origin: &Origin,
+        slots: &'a mut [Entry],
+    ) -> anyhow::Result<Scene<'a>> {
+        let Origin(draft, nodes, steps) = origin;
+        let graph = draft.graph()?;
+        let mut table = table(heap, *nodes)?;
         let mut list = EntryHeap::start(slots);
         let mut search = Search::open(&graph, &PathBound, &mut table, &mut list).map_err(unopened)?;
-        let _ = search.advance(&graph, &PathBound, &mut table, &mut list, steps);
+        let _ = search.advance(&graph, &PathBound, &mut table, &mut list, *steps);
         Ok(Scene {
             graph,
             search,
@@ -41,20 +51,27 @@ impl Scene<'_> {
         })
     }
 
-    // The scene that others change: the example's search in 11 nodes, two steps on. Of the 11 nodes, 0 holds the list
-    // schedule of length 9; 1 and 2, which are expanded, place nothing and task 0; 3 and 4 place task 1 too, on machine 0
-    // and 1, 5 and 6 task 2. These four wait, 3 and 5 with bound 7, 4 and 6 with bound 8; the entry of 5 comes first.
-    pub(crate) fn two_steps(heap: Global, slots: &mut [Entry; 11]) -> anyhow::Result<Scene<'_>> {
-        Scene::new(heap, example()?, slots, 2)
+    // How advance by so many steps ends, and what the search has then.
+    pub(crate) fn advance(&mut self, steps: u64) -> Advanced {
+        let Scene {
+            graph,
+            search,
+            table,
+            list,
+        } = self;
+        let mut rows = [ROW; 4];
+        let outcome = word(search.advance(graph, &PathBound, table, list, steps));
+        Advanced {
+            steps,
+            outcome,
+            tally: search.tally(),
+            floor: Told::number(search.floor(graph, table, list)),
+            best: Told::number(search.best(graph, table, list, &mut rows)),
+        }
     }
 
-    // The nodes, which are to be put back in a table.
-    pub(crate) fn take_nodes(&mut self, heap: Global) -> Result<Vec<Node>, AllocError> {
-        Ok(mem::replace(&mut self.table, table(heap, 0)?).into_nodes())
-    }
-
-    // A line: what floor, best, advance by one step, and settle answer, one after the other.
-    pub(crate) fn tell(self, rt: &impl Print, name: &str) -> io::Result<()> {
+    // What floor, best, advance by one step, and settle answer.
+    pub(crate) fn answers(self, name: &'static str) -> Answers {
         let Scene {
             graph,
             mut search,
@@ -62,23 +79,19 @@ impl Scene<'_> {
             mut list,
         } = self;
         let mut rows = [ROW; 4];
-        let floor = Told(
-            search
-                .floor(&graph, &table, &mut list)
-                .map_err(Refusal::from),
-        );
-        let best = Told(
-            search
-                .best(&graph, &table, &mut list, &mut rows)
-                .map_err(Refusal::from),
-        );
+        let floor = Told::number(search.floor(&graph, &table, &mut list));
+        let best = Told::number(search.best(&graph, &table, &mut list, &mut rows));
         let outcome = word(search.advance(&graph, &PathBound, &mut table, &mut list, 1));
-        match search.settle(&graph, &table, &mut list) {
-            Ok(_) => println!(rt; "{name}: floor {floor}, best {best}, {outcome}, settled"),
-            Err((fault, _)) => {
-                let refusal = Refusal::from(fault);
-                println!(rt; "{name}: floor {floor}, best {best}, {outcome}, {refusal}")
-            }
+        let settled = match search.settle(&graph, &table, &mut list) {
+            Ok(_) => Told::Word("settled"),
+            Err((fault, _)) => Told::Refused(Refusal::from(fault)),
+        };
+        Answers {
+            name,
+            floor,
+            best,
+            outcome,
+            settled,
         }
     }
 }

@@ -1,6 +1,6 @@
 use crate::blank;
 use crate::blank::{ROW, SLOT};
-use crate::scene::Scene;
+use crate::scene::{Scene, TWO_STEPS};
 use crate::told::{Told, word};
 use bounds::path_bound::PathBound;
 use loader::graph::TaskGraph;
@@ -9,34 +9,6 @@ use queue::entry_heap::EntryHeap;
 use refusal::refusal::Refusal;
 use search::search::Settled;
 use std::io;
-
-// A line: the best rows in a buffer of so many.
-fn tell_rows(rt: &(impl Print + AllocGlobal), count: usize) -> anyhow::Result<()> {
-    let mut slots = [SLOT; 11];
-    let Scene {
-        graph,
-        search,
-        table,
-        mut list,
-    } = Scene::two_steps(rt.alloc(), &mut slots)?;
-    let mut rows = vec![in rt.alloc(); ROW; count]?;
-    let best = search.best(&graph, &table, &mut list, rows.as_mut_slice());
-    print!(rt; "{count} rows: {}", Told(best.map_err(Refusal::from)))?;
-    for row in &rows {
-        print!(rt; " {}/{}", row.machine, row.start)?;
-    }
-    println!(rt; "")?;
-    Ok(())
-}
-
-// The list schedule's four rows, as machine/start, fill the front of a buffer; one that is shorter is left as it is.
-pub(crate) fn write_rows(rt: &(impl Print + AllocGlobal)) -> anyhow::Result<()> {
-    println!(rt; "rows of the best schedule")?;
-    for count in [0, 3, 4, 5] {
-        tell_rows(rt, count)?;
-    }
-    Ok(())
-}
 
 // A line: what a settled search answers with this table.
 fn tell_settled(
@@ -47,12 +19,8 @@ fn tell_settled(
     list: &mut EntryHeap<'_>,
 ) -> io::Result<()> {
     let mut rows = [ROW; 4];
-    let floor = Told(settled.floor(graph, table, list).map_err(Refusal::from));
-    let best = Told(
-        settled
-            .best(graph, table, list, &mut rows)
-            .map_err(Refusal::from),
-    );
+    let floor = Told::number(settled.floor(graph, table, list));
+    let best = Told::number(settled.best(graph, table, list, &mut rows));
     let nodes = table.len();
     println!(rt; "{nodes} nodes: floor {floor}, best {best}")
 }
@@ -67,7 +35,7 @@ pub(crate) fn settle_at_last(rt: &(impl Print + AllocGlobal)) -> anyhow::Result<
         search,
         mut table,
         mut list,
-    } = Scene::two_steps(rt.alloc(), &mut slots)?;
+    } = Scene::new(rt.alloc(), &TWO_STEPS, &mut slots)?;
     let Err((fault, mut search)) = search.settle(&graph, &table, &mut list) else {
         println!(rt; "too early")?;
         return Ok(());

@@ -5,15 +5,29 @@ use refusal::refusal::Refusal;
 use search::fault::SearchFault;
 use std::fmt;
 
-// What a call answers: a number or a refusal.
-#[derive(Clone, Copy, PartialEq, Eq, Debug)]
-pub(crate) struct Told(pub(crate) Result<u64, Refusal>);
+// What a call answers: a number, a word or a refusal.
+#[derive(Drop)]
+pub(crate) enum Told {
+    Number(u64),
+    Word(&'static str),
+    Refused(Refusal),
+}
 
 impl fmt::Display for Told {
     fn fmt<W: fmt::Write>(&self, f: &mut fmt::Formatter<W>) -> fmt::Result {
-        match self.0 {
-            Ok(number) => write!(f, "{number}"),
-            Err(refusal) => write!(f, "{refusal}"),
+        match self {
+            Told::Number(number) => write!(f, "{number}"),
+            Told::Word(word) => write!(f, "{word}"),
+            Told::Refused(refusal) => write!(f, "{refusal}"),
+        }
+    }
+}
+
+impl Told {
+    pub(crate) fn number<F: Into<Refusal>>(answer: Result<u64, F>) -> Told {
+        match answer {
+            Ok(number) => Told::Number(number),
+            Err(fault) => Told::Refused(fault.into()),
         }
     }
 }
