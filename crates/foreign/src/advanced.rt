@@ -7,20 +7,33 @@ use std::fmt;
 pub(crate) struct Advanced {
     pub(crate) steps: u64,
     pub(crate) outcome: &'static str,
-    pub(crate) tally: Tally,
+    pub(crate) done: Done,
     pub(crate) floor: Told,
     pub(crate) best: Told,
 }
+
+// What a search did.
+#[derive(Drop)]
+pub(crate) struct Done(pub(crate) Tally);
 
 impl fmt::Display for Advanced {
     fn fmt<W: fmt::Write>(&self, f: &mut fmt::Formatter<W>) -> fmt::Result {
         let Advanced {
             steps,
             outcome,
-            tally,
+            done,
             floor,
             best,
         } = self;
+        write!(
+            f,
+            "by {steps}: {outcome}, {done}, floor {floor}, best {best}"
+        )
+    }
+}
+
+impl fmt::Display for Done {
+    fn fmt<W: fmt::Write>(&self, f: &mut fmt::Formatter<W>) -> fmt::Result {
         let Tally {
             expanded,
             generated,
@@ -29,15 +42,11 @@ impl fmt::Display for Advanced {
             pruned,
             complete,
             waiting,
-        } = tally;
+        } = &self.0;
         write!(
             f,
-            "by {steps}: {outcome}, expanded {expanded} generated {generated} stored {stored}"
+            "expanded {expanded} generated {generated} stored {stored} duplicates {duplicates} "
         )?;
-        write!(
-            f,
-            " duplicates {duplicates} pruned {pruned} complete {complete} waiting {waiting}"
-        )?;
-        write!(f, ", floor {floor}, best {best}")
+        write!(f, "pruned {pruned} complete {complete} waiting {waiting}")
     }
 }

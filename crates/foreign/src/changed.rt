@@ -1,14 +1,28 @@
 use crate::answers::Answers;
 use crate::blank::SLOT;
-use crate::change::{Case, Change};
-use crate::scene::{Scene, TWO_STEPS};
+use crate::graphs::Draft;
+use crate::scene::{Origin, Scene, TWO_STEPS};
 use nodes::node::{Node, Status};
+use nodes::table::Table;
 use partial::partial::PartialSchedule;
 use partial::placement::Placement;
+use queue::entry::Entry;
 use queue::open_list::OpenList;
 use std::alloc::Global;
 
-// A node of this status and bound, from task, machine and start of each task that it places.
+// What is changed of a scene before it is asked.
+pub(crate) enum Change {
+    // Node i is one of this status and bound, with task, machine and start of each task that it places.
+    Node(usize, Status, u64, &'static [(usize, u8, u32)]),
+    // So many entries are taken from the list, and these are put. Node 7, which is not used, looks like one that waits.
+    Entries(usize, &'static [Entry]),
+    // The graph, the table or the list is another.
+    Graph(Draft),
+    Table(Origin),
+    List(Origin),
+}
+
+// A node of this status and bound, with task, machine and start of each task that it places.
 fn node(status: Status, bound: u64, places: &[(usize, u8, u32)]) -> Node {
     let mut all = [None; 32];
     for &(task, machine, start) in places {
@@ -23,51 +37,60 @@ fn node(status: Status, bound: u64, places: &[(usize, u8, u32)]) -> Node {
     }
 }
 
-// The answers after a change.
-pub(crate) fn answers_to(heap: Global, case: &Case) -> anyhow::Result<Answers> {
-    let Case(name, change) = case;
-    let mut slots = [SLOT; 11];
+// The table of another search.
+fn other_table(heap: Global, origin: &Origin) -> anyhow::Result<Table> {
+    let mut slots = vec![in heap; SLOT; origin.1]?;
+    Ok(Scene::new(heap, origin, slots.as_mut_slice())?.table)
+}
+
+// The answers with the list of another search.
+fn answers_with_list(
+    heap: Global,
+    name: &'static str,
+    scene: Scene<'_>,
+    origin: &Origin,
+) -> anyhow::Result<Answers> {
+    let mut slots = vec![in heap; SLOT; origin.1]?;
+    let list = Scene::new(heap, origin, slots.as_mut_slice())?.list;
     let Scene {
-        mut graph,
+        graph,
         search,
-        mut table,
-        mut list,
-    } = Scene::new(heap, &TWO_STEPS, &mut slots)?;
-    match change {
-        Change::Node(number, status, bound, places) => {
-            table.write(*number, node(*status, *bound, places))
-        }
-        Change::Entries(taken, put) => {
-            table.write(7, node(Status::Waiting, 7, &[(0, 0, 0)]));
-            for _ in 0..*taken {
-                let _ = list.take();
-            }
-            for entry in *put {
-                let _ = list.put(*entry);
-            }
-        }
-        Change::Graph(draft) => graph = draft.graph()?,
-        Change::Table(origin) => {
-            let mut other_slots = vec![in heap; SLOT; origin.1]?;
-            table = Scene::new(heap, origin, other_slots.as_mut_slice())?.table
-        }
-        Change::List(origin) => {
-            let mut other_slots = vec![in heap; SLOT; origin.1]?;
-            let other = Scene::new(heap, origin, other_slots.as_mut_slice())?;
-            let scene = Scene {
-                graph,
-                search,
-                table,
-                list: other.list,
-            };
-            return Ok(scene.answers(name));
-        }
-    }
+        table,
+        list: _,
+    } = scene;
     let scene = Scene {
         graph,
         search,
         table,
         list,
     };
+    Ok(scene.answers(name))
+}
+
+// The answers of the scene after a change.
+pub(crate) fn answers_after(
+    heap: Global,
+    name: &'static str,
+    change: &Change,
+) -> anyhow::Result<Answers> {
+    let mut slots = [SLOT; 11];
+    let mut scene = Scene::new(heap, &TWO_STEPS, &mut slots)?;
+    match change {
+        Change::Node(number, status, bound, places) => {
+            scene.table.write(*number, node(*status, *bound, places));
+        }
+        Change::Entries(taken, put) => {
+            scene.table.write(7, node(Status::Waiting, 7, &[(0, 0, 0)]));
+            for _ in 0..*taken {
+                let _ = scene.list.take();
+            }
+            for entry in *put {
+                let _ = scene.list.put(*entry);
+            }
+        }
+        Change::Graph(draft) => scene.graph = draft.graph()?,
+        Change::Table(origin) => scene.table = other_table(heap, origin)?,
+        Change::List(origin) => return answers_with_list(heap, name, scene, origin),
+    }
     Ok(scene.answers(name))
 }

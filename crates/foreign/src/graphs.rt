@@ -1,4 +1,4 @@
-use crate::told::unreadable;
+use crate::told::refused;
 use loader::graph::TaskGraph;
 use loader::load::load;
 
@@ -42,7 +42,7 @@ impl Draft {
             Draft::Longer => file[LAST_WORK] = 5,
             Draft::Unread => return Ok(graph),
         }
-        load(&mut graph, &file).map_err(unreadable)?;
+        load(&mut graph, &file).map_err(|fault| refused(fault.into()))?;
         Ok(graph)
     }
 }

@@ -1,54 +1,51 @@
 use crate::blank::SLOT;
-use crate::scene::{Scene, TWO_STEPS};
+use crate::graphs::Draft::Example;
+use crate::line::Line;
+use crate::line::Line::{Page, Title};
+use crate::scene::{Origin, Scene};
 use crate::told::Told;
-use bounds::path_bound::PathBound;
-use loader::graph::TaskGraph;
-use nodes::table::Table;
-use page::page::Page;
-use queue::entry_heap::EntryHeap;
+use page::page::Page as _;
+use std::alloc::Global;
+
+// The page of the search that two steps were made of has 233 bytes, the one of the settled search 238. Each fits a buffer
+// that is just as long, and a shorter one is left alone.
+pub(crate) const PAGES: &[Line] = &[
+    Title("pages"),
+    Page(2, 0),
+    Page(2, 232),
+    Page(2, 233),
+    Page(2, 234),
+    Page(2, 300),
+    Page(100, 0),
+    Page(100, 237),
+    Page(100, 238),
+    Page(100, 239),
+    Page(100, 300),
+];
 
 // What a buffer holds before a page is written; no page has this byte.
 const FILL: u8 = 255;
 
-// A line: what a page answers to a buffer of so many bytes, and how many of these it left alone.
-fn tell_page<P: Page>(
-    rt: &(impl Print + AllocGlobal),
-    name: &str,
-    page: &P,
-    graph: &TaskGraph,
-    table: &Table,
-    list: &mut EntryHeap<'_>,
-    room: usize,
-) -> anyhow::Result<()> {
-    let mut buffer = vec![in rt.alloc(); FILL; room]?;
-    let written = page.page(graph, table, list, buffer.as_mut_slice());
-    let answer = Told::number(written.map(|n| n as u64));
-    let left = buffer.iter().filter(|byte| **byte == FILL).count();
-    println!(rt; "{name} in {room} bytes: {answer}, {left} left alone")?;
-    Ok(())
-}
-
-// The page of the search that two steps were made of has 233 bytes, the one of the settled search 238. Each fits a buffer
-// that is just as long, and a shorter one is left alone.
-pub(crate) fn write_pages(rt: &(impl Print + AllocGlobal)) -> anyhow::Result<()> {
-    println!(rt; "pages")?;
+// Writes the page of the example's search after so many steps; of the settled search, where it settles.
+fn page(heap: Global, steps: u64, buffer: &mut [u8]) -> anyhow::Result<(&'static str, Told)> {
     let mut slots = [SLOT; 11];
     let Scene {
         graph,
-        mut search,
-        mut table,
+        search,
+        table,
         mut list,
-    } = Scene::new(rt.alloc(), &TWO_STEPS, &mut slots)?;
-    for room in [0, 232, 233, 234, 300] {
-        tell_page(rt, "open", &search, &graph, &table, &mut list, room)?;
-    }
-    let _ = search.advance(&graph, &PathBound, &mut table, &mut list, 100);
-    let Ok(settled) = search.settle(&graph, &table, &mut list) else {
-        println!(rt; "not settled")?;
-        return Ok(());
+    } = Scene::new(heap, &Origin(Example, 11, steps), &mut slots)?;
+    let (name, written) = match search.settle(&graph, &table, &mut list) {
+        Ok(settled) => ("shortest", settled.page(&graph, &table, &mut list, buffer)),
+        Err((_, search)) => ("open", search.page(&graph, &table, &mut list, buffer)),
     };
-    for room in [0, 237, 238, 239, 300] {
-        tell_page(rt, "shortest", &settled, &graph, &table, &mut list, room)?;
-    }
-    Ok(())
+    Ok((name, Told::number(written.map(|length| length as u64))))
+}
+
+// What a page answers to a buffer of so many bytes, and how many of these it left alone.
+pub(crate) fn write_page(heap: Global, steps: u64, room: usize) -> anyhow::Result<String> {
+    let mut buffer = vec![in heap; FILL; room]?;
+    let (name, answer) = page(heap, steps, buffer.as_mut_slice())?;
+    let left = buffer.iter().filter(|byte| **byte == FILL).count();
+    Ok(format!(in heap; "{name} in {room} bytes: {answer}, {left} left alone")?)
 }

@@ -1,23 +1,52 @@
 use crate::blank::{ROW, SLOT};
+use crate::line::Line;
+use crate::line::Line::{Rows, Title};
 use crate::scene::{Scene, TWO_STEPS};
 use crate::told::Told;
+use partial::placement::Placement;
+use std::alloc::Global;
+use std::fmt;
 
-// A line: the best rows in a buffer of so many. The list schedule's four rows, as machine/start, fill the front of a
-// buffer; one that is shorter is left as it is.
-pub(crate) fn tell_rows(rt: &(impl Print + AllocGlobal), count: usize) -> anyhow::Result<()> {
+// The list schedule's four rows, as machine/start, fill the front of a buffer; one that is shorter is left as it is.
+pub(crate) const ROWS: &[Line] = &[
+    Title("rows of the best schedule"),
+    Rows(0),
+    Rows(3),
+    Rows(4),
+    Rows(5),
+];
+
+// What best answers, and the rows then.
+#[derive(Drop)]
+struct Written<'a> {
+    best: Told,
+    rows: &'a [Placement],
+}
+
+impl fmt::Display for Written<'_> {
+    fn fmt<W: fmt::Write>(&self, f: &mut fmt::Formatter<W>) -> fmt::Result {
+        write!(f, "{} rows: {}", self.rows.len(), self.best)?;
+        for row in self.rows {
+            write!(f, " {}/{}", row.machine, row.start)?;
+        }
+        Ok(())
+    }
+}
+
+// The best rows in a buffer of so many.
+pub(crate) fn write_rows(heap: Global, count: usize) -> anyhow::Result<String> {
     let mut slots = [SLOT; 11];
+    let mut rows = vec![in heap; ROW; count]?;
     let Scene {
         graph,
         search,
         table,
         mut list,
-    } = Scene::new(rt.alloc(), &TWO_STEPS, &mut slots)?;
-    let mut rows = vec![in rt.alloc(); ROW; count]?;
+    } = Scene::new(heap, &TWO_STEPS, &mut slots)?;
     let best = Told::number(search.best(&graph, &table, &mut list, rows.as_mut_slice()));
-    print!(rt; "{count} rows: {best}")?;
-    for row in &rows {
-        print!(rt; " {}/{}", row.machine, row.start)?;
-    }
-    println!(rt; "")?;
-    Ok(())
+    let written = Written {
+        best,
+        rows: rows.as_slice(),
+    };
+    Ok(format!(in heap; "{written}")?)
 }

@@ -1,13 +1,14 @@
-use crate::advanced::Advanced;
+use crate::advanced::{Advanced, Done};
 use crate::answers::Answers;
-use crate::blank::{ROW, table};
+use crate::blank::{ROW, SLOT, table};
 use crate::graphs::Draft;
-use crate::told::{Told, unopened, word};
+use crate::told::{Told, refused, word};
 use bounds::path_bound::PathBound;
 use loader::graph::TaskGraph;
 use nodes::table::Table;
 use queue::entry::Entry;
 use queue::entry_heap::EntryHeap;
+use queue::open_list::OpenList;
 use refusal::refusal::Refusal;
 use search::search::Search;
 use std::alloc::Global;
@@ -37,18 +38,35 @@ impl Scene<'_> {
         origin: &Origin,
         slots: &'a mut [Entry],
     ) -> anyhow::Result<Scene<'a>> {
+        Scene::open(heap, origin, slots, 0)?.map_err(refused)
+    }
+
+    // A search in these slots, or why it is refused there, where the list holds so many entries before.
+    pub(crate) fn open<'a>(
+        heap: Global,
+        origin: &Origin,
+        slots: &'a mut [Entry],
+        held: usize,
+    ) -> anyhow::Result<Result<Scene<'a>, Refusal>> {
         let Origin(draft, nodes, steps) = origin;
         let graph = draft.graph()?;
         let mut table = table(heap, *nodes)?;
         let mut list = EntryHeap::start(slots);
-        let mut search = Search::open(&graph, &PathBound, &mut table, &mut list).map_err(unopened)?;
-        let _ = search.advance(&graph, &PathBound, &mut table, &mut list, *steps);
-        Ok(Scene {
-            graph,
-            search,
-            table,
-            list,
-        })
+        for _ in 0..held {
+            let _ = list.put(SLOT);
+        }
+        match Search::open(&graph, &PathBound, &mut table, &mut list) {
+            Ok(mut search) => {
+                let _ = search.advance(&graph, &PathBound, &mut table, &mut list, *steps);
+                Ok(Ok(Scene {
+                    graph,
+                    search,
+                    table,
+                    list,
+                }))
+            }
+            Err(fault) => Ok(Err(Refusal::from(fault))),
+        }
     }
 
     // How advance by so many steps ends, and what the search has then.
@@ -64,7 +82,7 @@ impl Scene<'_> {
         Advanced {
             steps,
             outcome,
-            tally: search.tally(),
+            done: Done(search.tally()),
             floor: Told::number(search.floor(graph, table, list)),
             best: Told::number(search.best(graph, table, list, &mut rows)),
         }

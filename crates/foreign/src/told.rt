@@ -1,8 +1,6 @@
 use anyhow::{Error, anyhow};
 use astar::outcome::Outcome;
-use loader::faults::GraphFault;
 use refusal::refusal::Refusal;
-use search::fault::SearchFault;
 use std::fmt;
 
 // What a call answers: a number, a word or a refusal.
@@ -42,13 +40,7 @@ pub(crate) fn word(outcome: Outcome) -> &'static str {
     }
 }
 
-// A refusal that ends the program: none of the graphs and none of the searches that it makes should be refused.
-pub(crate) fn unreadable(fault: GraphFault) -> Error {
-    let refusal = Refusal::from(fault);
-    anyhow!("no graph: {refusal}")
-}
-
-pub(crate) fn unopened(fault: SearchFault) -> Error {
-    let refusal = Refusal::from(fault);
-    anyhow!("no search: {refusal}")
+// A refusal that ends the program: none of the graphs and none of the scenes that it makes should be refused.
+pub(crate) fn refused(refusal: Refusal) -> Error {
+    anyhow!("{refusal}")
 }
