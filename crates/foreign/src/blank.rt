@@ -13,6 +13,14 @@ pub(crate) const ROW: Placement = Placement {
 
 pub(crate) const SLOT: Entry = Entry { bound: 7, node: 77 };
 
+// No list has more slots than these.
+pub(crate) const SLOTS: [Entry; 12] = [SLOT; 12];
+
+// The first so many slots.
+pub(crate) fn first(slots: &mut [Entry; 12], count: usize) -> &mut [Entry] {
+    &mut slots[..count.min(12)]
+}
+
 // A table of so many nodes, and what stands in them before they are written.
 pub(crate) fn table(heap: Global, nodes: usize) -> Result<Table, AllocError> {
     let node = Node {

@@ -1,5 +1,5 @@
 use crate::answers::Answers;
-use crate::blank::SLOT;
+use crate::blank::SLOTS;
 use crate::graphs::Draft;
 use crate::scene::{Origin, Scene, TWO_STEPS};
 use nodes::node::{Node, Status};
@@ -39,8 +39,8 @@ fn node(status: Status, bound: u64, places: &[(usize, u8, u32)]) -> Node {
 
 // The table of another search.
 fn other_table(heap: Global, origin: &Origin) -> anyhow::Result<Table> {
-    let mut slots = vec![in heap; SLOT; origin.1]?;
-    Ok(Scene::new(heap, origin, slots.as_mut_slice())?.table)
+    let mut slots = SLOTS;
+    Ok(Scene::new(heap, origin, &mut slots)?.table)
 }
 
 // The answers with the list of another search.
@@ -50,8 +50,8 @@ fn answers_with_list(
     scene: Scene<'_>,
     origin: &Origin,
 ) -> anyhow::Result<Answers> {
-    let mut slots = vec![in heap; SLOT; origin.1]?;
-    let list = Scene::new(heap, origin, slots.as_mut_slice())?.list;
+    let mut slots = SLOTS;
+    let list = Scene::new(heap, origin, &mut slots)?.list;
     let Scene {
         graph,
         search,
@@ -73,7 +73,7 @@ pub(crate) fn answers_after(
     name: &'static str,
     change: &Change,
 ) -> anyhow::Result<Answers> {
-    let mut slots = [SLOT; 11];
+    let mut slots = SLOTS;
     let mut scene = Scene::new(heap, &TWO_STEPS, &mut slots)?;
     match change {
         Change::Node(number, status, bound, places) => {

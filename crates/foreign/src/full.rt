@@ -1,4 +1,4 @@
-use crate::blank::SLOT;
+use crate::blank::SLOTS;
 use crate::graphs::Draft;
 use crate::line::Line;
 use crate::line::Line::Full;
@@ -30,9 +30,9 @@ pub(crate) const FULL_TABLES: &[Line] = &[
 
 // A search in a table of so many nodes, advanced twice by more steps than it can make, and then by none.
 pub(crate) fn fill(heap: Global, nodes: usize) -> anyhow::Result<String> {
-    let mut slots = vec![in heap; SLOT; nodes]?;
+    let mut slots = SLOTS;
     let origin = Origin(Draft::Example, nodes, 0);
-    let mut scene = Scene::new(heap, &origin, slots.as_mut_slice())?;
+    let mut scene = Scene::new(heap, &origin, &mut slots)?;
     let first = scene.advance(100);
     let second = scene.advance(100);
     let third = scene.advance(0);

@@ -1,9 +1,11 @@
-use crate::blank::SLOT;
+use crate::blank::{SLOT, SLOTS, first};
 use crate::graphs::Draft;
 use crate::line::Line;
 use crate::line::Line::Opening;
 use crate::scene::{Origin, Scene};
 use crate::told::Told;
+use queue::entry_heap::EntryHeap;
+use queue::open_list::OpenList;
 use std::alloc::Global;
 
 // A table has two nodes or more, else 9; a list is empty and has a slot for each node, else 10.
@@ -24,9 +26,13 @@ pub(crate) fn open(
     slots: usize,
     held: usize,
 ) -> anyhow::Result<String> {
-    let mut lent = vec![in heap; SLOT; slots]?;
+    let mut lent = SLOTS;
+    let mut list = EntryHeap::start(first(&mut lent, slots));
+    for _ in 0..held {
+        let _ = list.put(SLOT);
+    }
     let origin = Origin(Draft::Example, nodes, 0);
-    let opened = match Scene::open(heap, &origin, lent.as_mut_slice(), held)? {
+    let opened = match Scene::open(heap, &origin, list)? {
         Ok(_) => Told::Word("opened"),
         Err(refusal) => Told::Refused(refusal),
     };

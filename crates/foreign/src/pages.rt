@@ -1,4 +1,4 @@
-use crate::blank::SLOT;
+use crate::blank::SLOTS;
 use crate::graphs::Draft::Example;
 use crate::line::Line;
 use crate::line::Line::{Page, Title};
@@ -28,7 +28,7 @@ const FILL: u8 = 255;
 
 // Writes the page of the example's search after so many steps; of the settled search, where it settles.
 fn page(heap: Global, steps: u64, buffer: &mut [u8]) -> anyhow::Result<(&'static str, Told)> {
-    let mut slots = [SLOT; 11];
+    let mut slots = SLOTS;
     let Scene {
         graph,
         search,
@@ -44,8 +44,9 @@ fn page(heap: Global, steps: u64, buffer: &mut [u8]) -> anyhow::Result<(&'static
 
 // What a page answers to a buffer of so many bytes, and how many of these it left alone.
 pub(crate) fn write_page(heap: Global, steps: u64, room: usize) -> anyhow::Result<String> {
-    let mut buffer = vec![in heap; FILL; room]?;
-    let (name, answer) = page(heap, steps, buffer.as_mut_slice())?;
+    let mut buffer = [FILL; 300];
+    let buffer = &mut buffer[..room.min(300)];
+    let (name, answer) = page(heap, steps, buffer)?;
     let left = buffer.iter().filter(|byte| **byte == FILL).count();
     Ok(format!(in heap; "{name} in {room} bytes: {answer}, {left} left alone")?)
 }

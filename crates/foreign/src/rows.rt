@@ -1,4 +1,4 @@
-use crate::blank::{ROW, SLOT};
+use crate::blank::{ROW, SLOTS};
 use crate::line::Line;
 use crate::line::Line::{Rows, Title};
 use crate::scene::{Scene, TWO_STEPS};
@@ -35,18 +35,16 @@ impl fmt::Display for Written<'_> {
 
 // The best rows in a buffer of so many.
 pub(crate) fn write_rows(heap: Global, count: usize) -> anyhow::Result<String> {
-    let mut slots = [SLOT; 11];
-    let mut rows = vec![in heap; ROW; count]?;
+    let mut slots = SLOTS;
+    let mut rows = [ROW; 5];
+    let rows = &mut rows[..count.min(5)];
     let Scene {
         graph,
         search,
         table,
         mut list,
     } = Scene::new(heap, &TWO_STEPS, &mut slots)?;
-    let best = Told::number(search.best(&graph, &table, &mut list, rows.as_mut_slice()));
-    let written = Written {
-        best,
-        rows: rows.as_slice(),
-    };
+    let best = Told::number(search.best(&graph, &table, &mut list, rows));
+    let written = Written { best, rows };
     Ok(format!(in heap; "{written}")?)
 }

@@ -1,6 +1,6 @@
 use crate::advanced::{Advanced, Done};
 use crate::answers::Answers;
-use crate::blank::{ROW, SLOT, table};
+use crate::blank::{ROW, first, table};
 use crate::graphs::Draft;
 use crate::told::{Told, refused, word};
 use bounds::path_bound::PathBound;
@@ -8,7 +8,6 @@ use loader::graph::TaskGraph;
 use nodes::table::Table;
 use queue::entry::Entry;
 use queue::entry_heap::EntryHeap;
-use queue::open_list::OpenList;
 use refusal::refusal::Refusal;
 use search::search::Search;
 use std::alloc::Global;
@@ -32,29 +31,25 @@ pub(crate) struct Scene<'a> {
 }
 
 impl Scene<'_> {
-    // A search in these slots.
+    // A search whose list has the first of these slots, one for each node.
     pub(crate) fn new<'a>(
         heap: Global,
         origin: &Origin,
-        slots: &'a mut [Entry],
+        slots: &'a mut [Entry; 12],
     ) -> anyhow::Result<Scene<'a>> {
-        Scene::open(heap, origin, slots, 0)?.map_err(refused)
+        let list = EntryHeap::start(first(slots, origin.1));
+        Scene::open(heap, origin, list)?.map_err(refused)
     }
 
-    // A search in these slots, or why it is refused there, where the list holds so many entries before.
+    // A search with this list, or why it is refused.
     pub(crate) fn open<'a>(
         heap: Global,
         origin: &Origin,
-        slots: &'a mut [Entry],
-        held: usize,
+        mut list: EntryHeap<'a>,
     ) -> anyhow::Result<Result<Scene<'a>, Refusal>> {
         let Origin(draft, nodes, steps) = origin;
         let graph = draft.graph()?;
         let mut table = table(heap, *nodes)?;
-        let mut list = EntryHeap::start(slots);
-        for _ in 0..held {
-            let _ = list.put(SLOT);
-        }
         match Search::open(&graph, &PathBound, &mut table, &mut list) {
             Ok(mut search) => {
                 let _ = search.advance(&graph, &PathBound, &mut table, &mut list, *steps);

@@ -1,4 +1,4 @@
-use crate::blank::{ROW, SLOT, table};
+use crate::blank::{ROW, SLOTS, table};
 use crate::line::Line;
 use crate::line::Line::{Settling, Title};
 use crate::scene::{Scene, TWO_STEPS};
@@ -43,7 +43,7 @@ fn ask(settled: &Settled, graph: &TaskGraph, table: &Table, list: &mut EntryHeap
 
 // How a search settles two steps on, and at last, with its own table and a larger one.
 pub(crate) fn settle(heap: Global) -> anyhow::Result<String> {
-    let mut slots = [SLOT; 11];
+    let mut slots = SLOTS;
     let larger = table(heap, 12)?;
     let Scene {
         graph,
@@ -56,9 +56,10 @@ pub(crate) fn settle(heap: Global) -> anyhow::Result<String> {
     };
     let early = Refusal::from(fault);
     let outcome = word(search.advance(&graph, &PathBound, &mut own, &mut list, 100));
-    let settled = search
-        .settle(&graph, &own, &mut list)
-        .map_err(|(fault, _)| refused(fault.into()))?;
+    let settled = match search.settle(&graph, &own, &mut list) {
+        Ok(settled) => settled,
+        Err((fault, _)) => return Err(refused(Refusal::from(fault))),
+    };
     let with_own = ask(&settled, &graph, &own, &mut list);
     let with_larger = ask(&settled, &graph, &larger, &mut list);
     Ok(format!(in heap; "two steps on: {early}\nthen: {outcome}\n{with_own}\n{with_larger}")?)
