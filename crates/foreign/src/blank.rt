@@ -28,5 +28,8 @@ pub(crate) fn table(heap: Global, nodes: usize) -> Result<Table, AllocError> {
         bound: 0,
         status: Status::Expanded,
     };
-    Table::new(heap, vec![in heap; node; nodes]?).map_err(|(fault, _)| fault)
+    match Table::new(heap, vec![in heap; node; nodes]?) {
+        Ok(table) => Ok(table),
+        Err((fault, _)) => Err(fault),
+    }
 }

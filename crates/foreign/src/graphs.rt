@@ -1,6 +1,7 @@
 use crate::told::refused;
 use loader::graph::TaskGraph;
 use loader::load::load;
+use refusal::refusal::Refusal;
 
 // Four tasks of work 2, 3, 3, 2 on two machines; transfers 0 → 1 and 0 → 2 at cost 1, 1 → 3 at cost 2, 2 → 3 at cost 1.
 // A record to a line.
@@ -42,7 +43,9 @@ impl Draft {
             Draft::Longer => file[LAST_WORK] = 5,
             Draft::Unread => return Ok(graph),
         }
-        load(&mut graph, &file).map_err(|fault| refused(fault.into()))?;
-        Ok(graph)
+        match load(&mut graph, &file) {
+            Ok(()) => Ok(graph),
+            Err(fault) => Err(refused(Refusal::from(fault))),
+        }
     }
 }

@@ -5,6 +5,7 @@ use crate::line::Line::{Page, Title};
 use crate::scene::{Origin, Scene};
 use crate::told::Told;
 use page::page::Page as _;
+use refusal::refusal::Refusal;
 use std::alloc::Global;
 
 // The page of the search that two steps were made of has 233 bytes, the one of the settled search 238. Each fits a buffer
@@ -39,7 +40,11 @@ fn page(heap: Global, steps: u64, buffer: &mut [u8]) -> anyhow::Result<(&'static
         Ok(settled) => ("shortest", settled.page(&graph, &table, &mut list, buffer)),
         Err((_, search)) => ("open", search.page(&graph, &table, &mut list, buffer)),
     };
-    Ok((name, Told::number(written.map(|length| length as u64))))
+    let answer = match written {
+        Ok(length) => Told::Number(length as u64),
+        Err(fault) => Told::Refused(Refusal::from(fault)),
+    };
+    Ok((name, answer))
 }
 
 // What a page answers to a buffer of so many bytes, and how many of these it left alone.
@@ -47,6 +52,11 @@ pub(crate) fn write_page(heap: Global, steps: u64, room: usize) -> anyhow::Resul
     let mut buffer = [FILL; 300];
     let buffer = &mut buffer[..room.min(300)];
     let (name, answer) = page(heap, steps, buffer)?;
-    let left = buffer.iter().filter(|byte| **byte == FILL).count();
+    let mut left = 0u64;
+    for byte in &*buffer {
+        if *byte == FILL {
+            left = left.saturating_add(1);
+        }
+    }
     Ok(format!(in heap; "{name} in {room} bytes: {answer}, {left} left alone")?)
 }

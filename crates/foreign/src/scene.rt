@@ -38,7 +38,10 @@ impl Scene<'_> {
         slots: &'a mut [Entry; 12],
     ) -> anyhow::Result<Scene<'a>> {
         let list = EntryHeap::start(first(slots, origin.1));
-        Scene::open(heap, origin, list)?.map_err(refused)
+        match Scene::open(heap, origin, list)? {
+            Ok(scene) => Ok(scene),
+            Err(refusal) => Err(refused(refusal)),
+        }
     }
 
     // A search with this list, or why it is refused.
