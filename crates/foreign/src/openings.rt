@@ -31,6 +31,7 @@ pub(crate) fn open(
     for _ in 0..held {
         let _ = list.put(SLOT);
     }
+    let held = list.count();
     let origin = Origin(Draft::Example, nodes, 0);
     let opened = match Scene::open(heap, &origin, list)? {
         Ok(_) => Told::Word("opened"),
