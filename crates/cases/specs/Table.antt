@@ -186,8 +186,7 @@ searched d n k =
     advanced (described d) joined_bound (sizes_of (described d) ns) n k
     (opened (described d) joined_bound (listed (described d) d.tasks) ns)
 
--- the one schedule is as long as its bound; with two nodes there is no room for a child; with as many as the program gives
--- the example is searched to its end
+-- the one schedule is as long as its bound; the example with two nodes is paused by budget 0, and has no room for a child
 abbrev pub Searches : Type 0
 Searches =
     (((searched single 256 10000).1 ≡ Met)
@@ -199,6 +198,7 @@ Searches =
     × (floor (searched example 2 1).0 ≡ 7)
     × (best_length (searched example 2 1).0 ≡ 9))
 
+-- with as many nodes as the program gives, the example is searched to its end
 abbrev pub ExampleSearched : Type 0
 ExampleSearched =
     ((searched example 256 10000).1 ≡ Met)
@@ -333,7 +333,7 @@ OpenPage = text_of (described single) false going_on
     ++ (line (codes "taken 11 made 12 put 13 twins 14 cut 15 complete 16 waiting 17")
     ++ line (codes "open"))))
 
--- searches with duplicates
+-- more searches: `three` and `five` meet duplicates, `fork` none
 abbrev three : Description
 three = record { tasks = 3; machines = 2; works = 2 ∷ 3 ∷ 3 ∷ []; transfers = [] }
 

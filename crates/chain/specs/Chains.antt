@@ -37,7 +37,7 @@ pub record CellsKept (a b : Links) : Type 0 where
   -- every cell holds the entry that it held, but for the first free one where an entry was put
   pub entries : (k : ℕ) → (k ≡ a.free → b.count ≤ a.count)
       → entry_at (cells_of b) k ≡ entry_at (cells_of a) k
-  -- an entry is put into the first free cell, and the next one is the first free one then
+  -- where an entry was put, the cell behind the first free one is the first free one then
   pub used : a.count < b.count → b.free ≡ after (cells_of a) a.free
   -- a cell that is given up is the first free one then, before those that were free
   pub given_up : b.count < a.count

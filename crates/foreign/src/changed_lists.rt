@@ -5,10 +5,11 @@ use crate::line::Line::{Changed, Title};
 use crate::scene::Origin;
 use queue::entry::Entry;
 
-// Four entries wait: with another number every call refuses. Otherwise the floor is the least bound, if it is below 9, and
-// advance is strange where the entry that comes first is not a node's that waits with its bound: node 0, one that is
-// expanded, one that is not used, one past the last, or node 5 at another bound. With bounds 9, as with those of the
-// longer graph, 10 and 11, the search is taken for met and settled, since no bound is below the best length.
+// Four entries wait: with another number every call refuses, and advance is strange. Otherwise the floor is the least
+// bound, if it is below 9, and advance is strange where the entry that comes first is not a node's that waits with its
+// bound: node 0, one that is expanded, one that is not used, one past the last, or node 5 at another bound. With bounds 9,
+// as with those of the longer graph, 10 and 11, the search is taken for met and settled, since no bound is below the best
+// length.
 pub(crate) const CHANGED_LISTS: &[Line] = &[
     Title("changes of the list"),
     Changed("none", Entries(0, &[])),

@@ -51,30 +51,60 @@ pub(crate) const CHANGED_BEST: &[Line] = &[
     Title("changes of node 0"),
     Changed(
         "none",
-        Node(0, Waiting, 9, &[(0, 0, 0), (1, 0, 2), (2, 1, 3), (3, 0, 7)]),
+        Node(
+            0,
+            Expanded,
+            9,
+            &[(0, 0, 0), (1, 0, 2), (2, 1, 3), (3, 0, 7)],
+        ),
     ),
     Changed(
         "length 8",
-        Node(0, Waiting, 8, &[(0, 0, 0), (1, 0, 2), (2, 1, 3), (3, 0, 7)]),
+        Node(
+            0,
+            Expanded,
+            8,
+            &[(0, 0, 0), (1, 0, 2), (2, 1, 3), (3, 0, 7)],
+        ),
     ),
     Changed(
         "length 7",
-        Node(0, Waiting, 7, &[(0, 0, 0), (1, 0, 2), (2, 1, 3), (3, 0, 7)]),
+        Node(
+            0,
+            Expanded,
+            7,
+            &[(0, 0, 0), (1, 0, 2), (2, 1, 3), (3, 0, 7)],
+        ),
     ),
     Changed(
         "without task 3",
-        Node(0, Waiting, 9, &[(0, 0, 0), (1, 0, 2), (2, 1, 3)]),
+        Node(0, Expanded, 9, &[(0, 0, 0), (1, 0, 2), (2, 1, 3)]),
     ),
     Changed(
         "task 2 too early",
-        Node(0, Waiting, 9, &[(0, 0, 0), (1, 0, 2), (2, 1, 2), (3, 0, 7)]),
+        Node(
+            0,
+            Expanded,
+            9,
+            &[(0, 0, 0), (1, 0, 2), (2, 1, 2), (3, 0, 7)],
+        ),
     ),
     Changed(
         "tasks 1 and 2 at once",
-        Node(0, Waiting, 9, &[(0, 0, 0), (1, 0, 2), (2, 0, 2), (3, 0, 7)]),
+        Node(
+            0,
+            Expanded,
+            9,
+            &[(0, 0, 0), (1, 0, 2), (2, 0, 2), (3, 0, 7)],
+        ),
     ),
     Changed(
         "machine 2",
-        Node(0, Waiting, 9, &[(0, 0, 0), (1, 0, 2), (2, 2, 3), (3, 0, 7)]),
+        Node(
+            0,
+            Expanded,
+            9,
+            &[(0, 0, 0), (1, 0, 2), (2, 2, 3), (3, 0, 7)],
+        ),
     ),
 ];

@@ -5,7 +5,7 @@ use crate::line::Line::{Changed, Title};
 use crate::scene::Origin;
 
 // The search knows its memory by the numbers of tasks, machines, nodes and entries: with another number of nodes every
-// call refuses.
+// call refuses, and advance is strange.
 pub(crate) const RESIZED_TABLES: &[Line] = &[
     Title("tables of other sizes"),
     Changed("10 nodes", Table(Origin(Example, 10, 2))),
@@ -24,8 +24,8 @@ pub(crate) const CHANGED_TABLES: &[Line] = &[
     Changed("of the longer graph", Table(Origin(Longer, 11, 2))),
 ];
 
-// For a graph with another number of machines or tasks every call refuses. The longer graph has as many: node 0 is no
-// schedule of its length there, and node 5 is expanded, whose children are pruned.
+// For a graph with another number of machines or tasks every call refuses, and advance is strange. The longer graph has
+// as many: node 0 is no schedule of its length there, and node 5 is expanded, whose children are pruned.
 pub(crate) const CHANGED_GRAPHS: &[Line] = &[
     Title("other graphs"),
     Changed("three machines", Graph(Wider)),

@@ -24,8 +24,8 @@ MakespanIsGreatest = (g : Graph) (p : Schedule) → 0 < g.tasks
 abbrev pub work_there : Graph → Partial → ℕ → ℕ
 work_there g s m = sum g.tasks (λ u. if s.placed u && s.machine u == m then g.work u else 0)
 
--- load: the least number that, on each machine, makes room for all work and idle time; a machine idles for what its
--- finish has over the work placed on it
+-- load: the least number of which one for each machine, added up, makes room for all work and idle time; a machine
+-- idles for what its finish has over the work placed on it
 abbrev pub LoadIsLeast : Type 0
 LoadIsLeast = (g : Graph) (s : Partial) → 0 < g.machines
     → Least (λ b. sum g.tasks g.work + sum g.machines (λ m. machine_finish g s m - work_there g s m)

@@ -55,7 +55,7 @@ pub fn makespan_is_greatest()
     ensures { MakespanIsGreatest }
 {}
 
-// Load is the least number that makes room on each machine for all work and idle time.
+// Load is the least number that, times the number of machines, is at least all work and idle time.
 pub fn load_is_least()
     ensures { LoadIsLeast }
 {}

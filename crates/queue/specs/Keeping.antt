@@ -5,8 +5,8 @@ use Rattle.queue.specs.declared.entry_heap.EntryHeap.{EntryHeap}
 use Rattle.queue.specs.Entries.{entry_before}
 use Rattle.queue.specs.Heaps.{slots_of, bag_of, SlotsKept}
 
--- what any number of puts and takes keep, one after the other, of which each keeps something, while the list never holds
--- more than `most` entries: a put adds an entry to the bag, a take leaves it without the one that comes first
+-- what any number of puts and takes keep, one after the other, of which each keeps something, while after each put the
+-- list holds at most `most` entries: a put adds an entry to the bag, a take leaves it without the one that comes first
 pub data Kept {A : Type 0} (bag : A → List Entry) (Keeps : A → A → Type 0) (most : ℕ) (a : A) : A → Type 0 where
   none : Kept bag Keeps most a a
   put : {b c : A} (e : Entry) → Kept bag Keeps most a b → Keeps b c
