@@ -13,4 +13,5 @@ pub mod Advancing
 pub mod Ending
 pub mod Fates
 pub mod Distinct
+pub mod Rooting
 pub mod Courses

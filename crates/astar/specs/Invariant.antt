@@ -2,10 +2,11 @@ use Rattle.std.specs.Prelude.{◌≡◌, ℕ, ◌+◌, ◌<◌, ◌≤◌, ◌�
 use Rattle.std.specs.List.{Contains, AllByRecursion}
 use Rattle.model.specs.Graph.{Graph}
 use Rattle.model.specs.Schedule.{Schedule, makespan}
-use Rattle.model.specs.Partial.{Partial, Complete, Unfinished, whole}
+use Rattle.model.specs.Partial.{Partial, Complete, Unfinished, nothing, whole}
 use Rattle.model.specs.Reachable.{Reachable, Empty}
 use Rattle.model.specs.Completion.{Completion}
 use Rattle.model.specs.Children.{choices, child}
+use Rattle.model.specs.Bounds.{Bound}
 use Rattle.model.specs.Nodes.{node_at, is_duplicate}
 use Rattle.bag.specs.Bag.{InOrder}
 use Rattle.queue.specs.declared.entry.Entry.{Entry}
@@ -76,6 +77,11 @@ pub record Distinct (w : SearchState) : Type 0 where
   pub distinct : (i j : ℕ) → InUse w i → InUse w j → i ≢ j
       → is_duplicate (partial_at w i) (partial_at w j) ≡ true → ⊥
   pub zeroth : (node_at w.nodes 0).waiting ≡ false
+
+-- node 1 holds the empty partial schedule, with the rule's number for it as its bound
+pub record Rooted (g : Graph) (b : Bound) (w : SearchState) : Type 0 where
+  pub partial : partial_at w 1 ≡ nothing
+  pub bound : (node_at w.nodes 1).bound ≡ b g nothing
 
 -- every child is due
 abbrev pub All : ℕ → ℕ × ℕ → Type 0

@@ -10,8 +10,10 @@ use Rattle.schedule.specs.ListSchedule.{listed}
 use Rattle.schedule.proofs.Judging.{judged-feasible}
 use Rattle.schedule.proofs.Listing.{facts, facts-complete}
 use Rattle.astar.specs.Advance.{is_own}
+use Rattle.astar.specs.Invariant.{Rooted}
 use Rattle.astar.specs.Laws.{Standing}
 use Rattle.astar.proofs.Starting.{opening-stands}
+use Rattle.astar.proofs.Rooting.{rooted-opened, rooted-advanced}
 use Rattle.astar.proofs.Advancing.{advance-keeps}
 use Rattle.astar.proofs.Ending.{advance-meets}
 use Rattle.astar.proofs.Floor.{least-best, floor-holds, best-is-feasible}
@@ -50,8 +52,8 @@ module _ (g : Graph) (m : Moment) where
         and_from _ _ (every-from g.tasks _ S.invariant.grown.best.1)
         (rw (judged-feasible g (best m) B.0) (eq-eqb _ _ (sym B.1)))
 
-    promised : (b : Bound) (done : Bool) → IsLowerBound b → (done ≡ true → Settles g m) → Promise g b done m
-    promised b done lower over =
+    promised : (b : Bound) (done : Bool) → IsLowerBound b → (done ≡ true → Settles g m) → Rooted g b m.state → Promise g b done m
+    promised b done lower over root =
         let B = best-is-feasible g m.state L S.invariant in
         record {
           bounded = floor-holds g m.state L S.invariant;
@@ -67,6 +69,7 @@ module _ (g : Graph) (m : Moment) where
             | no l ↦ absurd (n ((settles-of g m S).1 (omega (arith, l, least-best (best_length m) m.state.bag))))
           ];
           apart = S.invariant.apart;
+          root = root;
           answers = rw S.own refl;
           writes = rw (S.own, best-right, le-ltb g.tasks g.tasks (omega arith)) refl;
           never = λ k. (advance-keeps g b m.sizes m.limit k m.state L lower S).3;
@@ -96,6 +99,13 @@ module _ (g : Graph) (b : Bound) (L : Lawful g) (lower : IsLowerBound b) where
   run-stands (asked r) = run-stands r
   run-stands (settled r s) = run-stands r
 
+  -- and node 1 is the root
+  run-rooted : {done : Bool} {m : Moment} → Run g b done m → Rooted g b m.state
+  run-rooted (opened ns limit e) = rooted-opened g b (listed g g.tasks) ns (accepted ns limit e).0
+  run-rooted (advanced {m = m} k r) = rooted-advanced g b m.sizes m.limit k m.state (run-rooted r)
+  run-rooted (asked r) = run-rooted r
+  run-rooted (settled r s) = run-rooted r
+
   -- its memory is its own
   pub run-owned : (done : Bool) (m : Moment) → Run g b done m → is_own g m.sizes m.state m.limit ≡ true
   run-owned done m r = (run-stands r).own
@@ -116,7 +126,7 @@ module _ (g : Graph) (b : Bound) (L : Lawful g) (lower : IsLowerBound b) where
 
   -- the promise is kept at every point
   pub promise : (done : Bool) (m : Moment) → Run g b done m → Promise g b done m
-  promise done m r = promised g m L (run-stands r) b done lower (settled-settles r)
+  promise done m r = promised g m L (run-stands r) b done lower (settled-settles r) (run-rooted r)
 
   -- from a point where the search stands it stands at each later one, and the bounds draw closer
   since-stands : {m n : Moment} → Stands g m → Since g b m n → Stands g n × Onward m n

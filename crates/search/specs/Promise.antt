@@ -4,7 +4,7 @@ use Rattle.model.specs.Schedule.{Schedule, Feasible, makespan}
 use Rattle.model.specs.Bounds.{Bound, IsLowerBound}
 use Rattle.astar.specs.declared.outcome.Outcome.TheVariants.{Strange, Met}
 use Rattle.astar.specs.States as states
-use Rattle.astar.specs.Invariant.{Distinct}
+use Rattle.astar.specs.Invariant.{Distinct, Rooted}
 use Rattle.astar.specs.Laws as laws
 use Rattle.astar.specs.Advance.{advanced}
 use Rattle.search.specs.Calls.{best_fault, floor_fault}
@@ -39,8 +39,10 @@ pub record Promise (g : Graph) (b : Bound) (done : Bool) (m : Moment) : Type 0 w
   -- after a call of advance that answers Met settle is accepted, and where it is refused the floor is below the best length
   pub meets : (k : ℕ) → (advanced g b m.sizes m.limit k m.state).1 ≡ Met → Settles g (onward g b k m)
   pub unsettled : (Settles g m → ⊥) → floor m < length m
-  -- no two used nodes above 0 are duplicates, and node 0 does not wait
+  -- no two used nodes above 0 are duplicates, and node 0 does not wait; node 1 holds the empty partial schedule, with the
+  -- rule's number for it as its bound
   pub apart : Distinct m.state
+  pub root : Rooted g b m.state
   -- the memory is never foreign, and advance never answers Strange
   pub answers : floor_fault g m.sizes m.state m.limit ≡ None
   pub writes : best_fault g m.sizes m.state m.limit g.tasks ≡ None
