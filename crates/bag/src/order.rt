@@ -3,7 +3,7 @@ ghost use Rattle.bag.specs.Order.{Total};
 
 // A total order by the test 'x comes before y'. Its law: any two compare, comparison is transitive, and what
 // ties is equal.
-// A rule of the project: entries come with this order, since under `Ord` values may tie that differ.
+// It is asked for in place of `Ord`, under which values may tie that differ.
 pub trait TotalOrder: Copy {
     ghost before: { Self → Self → Bool };
 

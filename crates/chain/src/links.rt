@@ -9,7 +9,7 @@ use queue::entry::Entry;
 
 // An ordered chain in lent cells: `count` cells from `head` on hold the entries, the others are chained
 // from `free` on. That no cell is met twice is part of the type.
-// A rule of the project: memory below the programs is lent and fixed, so cells name others by number.
+// The cells are lent and their number is fixed, so they name each other by number.
 #[derive(Drop)]
 pub struct Links<'a> {
     pub cells: &'a mut [Cell],

@@ -9,8 +9,8 @@ use crate::transfer_list::TransferList;
 
 // A task graph. Its law is part of its type: no value breaks it. The first `tasks` works and levels
 // and the first `count` transfers are the graph's.
-// A rule of the project: there is no heap below the programs, so that a graph lies in fixed memory. It is copied whole,
-// which a `TransferList`, seen as a list, is not.
+// It lies in fixed memory, so that loading cannot run out of it. It is copied whole, which a `TransferList`, seen as a
+// list, is not.
 #[derive(Clone, Copy)]
 pub struct TaskGraph {
     tasks: usize,

@@ -8,7 +8,7 @@ use crate::heap::Heap;
 use crate::open_list::OpenList;
 
 // An open list as a heap in lent slots. That the slots are in heap order is part of the type.
-// A rule of the project: each kind of entry has a heap type of its own, as `ReadyHeap` for tasks.
+// It is a type of its own beside `ReadyHeap`, since each says by its own test in which order its slots lie.
 #[derive(Drop)]
 pub struct EntryHeap<'a> {
     heap: Heap<'a, Entry>,

@@ -5,8 +5,8 @@ use crate::sift::{sift_down, sift_up};
 use bag::order::TotalOrder;
 
 // A binary heap in lent slots: the first `count` slots hold its entries.
-// A rule of the project: memory below the programs is lent and fixed, so the slots in use are counted.
-// A rule of the project: the heap order is a premise and a promise; a type that holds a heap keeps it.
+// The slots are lent and their number is fixed, so those in use are counted.
+// The heap order is a premise and a promise, since a test would read every slot; a type that holds a heap keeps it.
 #[derive(Drop)]
 pub struct Heap<'a, T> {
     slots: &'a mut [T],

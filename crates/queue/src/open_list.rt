@@ -9,7 +9,7 @@ use crate::entry::Entry;
 
 // An open list: a bag of entries with a limit on their number. The bag is told as the list of its entries
 // in order.
-// A rule of the project: calls that change nothing take `&mut self` too, and say what they leave.
+// Every call takes `&mut self`; those that change nothing say so (clause `same`).
 pub trait OpenList {
     ghost bag: { Self → List Entry };
 

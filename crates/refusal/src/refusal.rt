@@ -4,7 +4,7 @@ use std::fmt;
 // What is told of a refusal: its number, the place, and the layer that refused.
 #[derive(Clone, Copy, PartialEq, Eq, Debug)]
 pub struct Refusal {
-    // A plain number, as a rule of the project has it: the fault types of the layers are the enums of the cases.
+    // A plain number: the fault types of the layers are the enums of the cases.
     pub number: u8,
     pub place: usize,
     pub layer: Layer,

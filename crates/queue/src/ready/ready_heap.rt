@@ -10,7 +10,7 @@ use crate::ready::ReadyTask;
 
 // Tasks that wait to be placed, as a heap in lent slots. That the slots are in heap order is part of the
 // type.
-// A rule of the project: each kind of entry has a heap type of its own, as open lists have `EntryHeap`.
+// It is a type of its own beside `EntryHeap`, since each says by its own test in which order its slots lie.
 #[derive(Drop)]
 pub struct ReadyHeap<'a> {
     heap: Heap<'a, ReadyTask>,
