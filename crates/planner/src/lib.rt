@@ -1,0 +1,12 @@
+#![tactic(auto)]
+
+//! What the program `planrun` does, from the words of its command line and the bytes of its input to what it writes
+//! and the status that it ends with.
+
+pub mod limit;
+pub mod options;
+pub mod plan;
+pub mod plan_fault;
+pub mod request;
+pub mod setting;
+pub mod words;

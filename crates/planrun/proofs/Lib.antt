@@ -1,3 +1,0 @@
-pub mod Settings
-pub mod Pages
-pub mod Blanks
