@@ -7,6 +7,7 @@ pub mod Bytes
 pub mod Kinds
 pub mod Records
 pub mod Parse
+pub mod Prefix
 pub mod Tables
 pub mod Levels
 pub mod Encoding

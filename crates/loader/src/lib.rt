@@ -7,6 +7,7 @@ pub mod graph;
 mod levels;
 pub mod load;
 mod pairs;
+pub mod prefix;
 mod read;
 mod records;
 mod sizes;

@@ -1,0 +1,5 @@
+use Rattle.loader.proofs.Prefixes.{decides}
+use Rattle.loader.proofs.prefix.longest_prefix.Goals as goal
+
+pub returns-clause-decides : goal.returns-clause-decides
+returns-clause-decides c = decides
