@@ -6,6 +6,6 @@ use Rattle.loader.specs.Parse.{parse}
 abbrev pub longest_prefix : ℕ
 longest_prefix = place_of 32 128 + 4 + 65535
 
--- the answer for an input is the answer for its first n bytes, whatever follows them
+-- the answer for an input is the answer for its first n elements, if these are bytes, whatever follows them
 abbrev pub Decides : ℕ → Type 0
 Decides n = (bs : List ℕ) → All (λ b. b < 256) (take n bs) → parse (take n bs) ≡ parse bs
