@@ -1,4 +1,9 @@
+pub mod Input
 pub mod Options
 pub mod Requests
 pub mod Limits
 pub mod Planning
+pub mod Texts
+pub mod Explaining
+pub mod Answers
+pub mod Running

@@ -1,0 +1,17 @@
+#![tactic(auto)]
+
+//! `planrun` with nodes that do not suffice.
+use planner::run::run;
+use planner::words::words;
+use std::process::ExitCode;
+
+fn main(rt: HostRuntime) -> ExitCode {
+    run(
+        rt.alloc(),
+        words(rt.alloc(), &rt),
+        &mut rt.stdin(),
+        &mut rt.stdout(),
+        &mut rt.stderr(),
+    )
+    .code()
+}

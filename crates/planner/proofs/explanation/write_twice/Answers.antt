@@ -1,0 +1,5 @@
+use Rattle.std.proofs.Common.{sym, ◌∙◌}
+use Rattle.planner.proofs.explanation.write_twice.Goals as goal
+
+pub returns : goal.returns
+returns g c = rw (sym c.number-from.ensures.value, sym c.number-to.ensures.value) c.write.ensures.bytes
