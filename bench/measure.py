@@ -29,13 +29,13 @@ def record(kind, *payload):
     return struct.pack(f"<{2 + len(payload)}H", 2 * len(payload), kind, *payload)
 
 
-def run_file(tasks, machines, transfers, start):
-    """A graph as a run file. Works lie between 1 and 100, costs between 0 and 100."""
+def run_file(tasks, machines, transfers, start, work=100, cost=100):
+    """A random graph as a run file: works from 1 to `work`, costs from 0 to `cost`, transfers to higher task numbers."""
     draw = random.Random(start)
     pairs = [(a, b) for a in range(tasks) for b in range(a + 1, tasks)]
     parts = [record(1, tasks, machines)]
-    parts += [record(2, draw.randint(1, 100)) for _ in range(tasks)]
-    parts += [record(3, a, b, draw.randint(0, 100)) for a, b in sorted(draw.sample(pairs, transfers))]
+    parts += [record(2, draw.randint(1, work)) for _ in range(tasks)]
+    parts += [record(3, a, b, draw.randint(0, cost)) for a, b in sorted(draw.sample(pairs, transfers))]
     return b"".join([*parts, record(4)])
 
 
