@@ -1,0 +1,3 @@
+pub mod Finishes
+pub mod FinishLaws
+pub mod ListLaws
