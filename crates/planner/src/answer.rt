@@ -81,10 +81,8 @@ impl Answer {
     {
         match self {
             Answer::Page(_, _) | Answer::Help => 0,
-            Answer::Refused(_, _)
-            | Answer::BadCall(_)
-            | Answer::NoMemory(_)
-            | Answer::Unreadable => 1,
+            Answer::Refused(_, _) | Answer::BadCall(_) | Answer::NoMemory(_) | Answer::Unreadable =>
+                1,
         }
     }
 }

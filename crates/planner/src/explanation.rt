@@ -9,11 +9,7 @@ use std::io::Write;
 
 /// Writes the refusal of a file in words: which record, which number, and what is allowed there. Nothing, where its
 /// place lies past the end of the bytes.
-pub fn write_explanation<W: Write>(
-    errors: &mut W,
-    bytes: &[u8],
-    refusal: Refusal,
-) -> io::Result<()>
+pub fn write_explanation<W: Write>(errors: &mut W, bytes: &[u8], refusal: Refusal) -> io::Result<()>
     ensures { OnOk result
         (Appends (W.contents errors.old) (W.contents errors.new) (explained bytes.now refusal)) }
 {
@@ -25,12 +21,7 @@ pub fn write_explanation<W: Write>(
 }
 
 // By the number of the refusal.
-fn write_told<W: Write>(
-    errors: &mut W,
-    bytes: &[u8],
-    number: u8,
-    place: usize,
-) -> io::Result<()>
+fn write_told<W: Write>(errors: &mut W, bytes: &[u8], number: u8, place: usize) -> io::Result<()>
     requires { place ≤ length bytes.now }
     ensures { OnOk result
         (Appends (W.contents errors.old) (W.contents errors.new) (told bytes.now number place)) }

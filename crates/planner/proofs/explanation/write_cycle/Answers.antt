@@ -1,4 +1,4 @@
-use Rattle.std.proofs.Common.{sym, ◌∙◌}
+use Rattle.std.proofs.Common.{sym}
 use Rattle.planner.proofs.explanation.write_cycle.Goals as goal
 
 pub returns : goal.returns

@@ -1,4 +1,4 @@
-use Rattle.std.proofs.Common.{◌≡◌, ◌≢◌, ℕ, suc, ◌<◌, Bool, true, false, List, length, map, Global, arith, sym, subst, ◌∙◌}
+use Rattle.std.proofs.Common.{◌≡◌, ◌≢◌, ℕ, ◌<◌, Bool, true, false, List, length, map, Global, arith, sym, subst, ◌∙◌}
 use Rattle.std.specs.Prelude.{MatchBool, String, string_bytes, codes}
 use Rattle.std.proofs.lemmas.List.{length-map}
 use Rattle.planner.specs.Options.{Takes}
@@ -11,7 +11,6 @@ help false w m e = cc
 no-help : (b : Bool) (w : List ℕ) → MatchBool b (w ≡ codes "--help") (w ≢ codes "--help") → b ≡ false → w ≢ codes "--help"
 no-help true w m e = cc
 no-help false w m e = m
-
 
 -- a place within the words is one within their bytes
 within : (ws : List (String Global)) (i : ℕ) → i < length ws → i < length (map string_bytes ws)
@@ -27,10 +26,20 @@ returns-in_default c =
 
 pub returns-then-place-words : goal.returns-then-place-words
 returns-then-place-words c =
-    λ x s. (c.args.place, (x, s, within _ _ c.requires), sym c.word-name.ensures ∙ c.in-Some.ensures,
-    omega (arith, length-map c.args.words.now string_bytes, c.requires, c.if-place-words.true))
+    λ x s. (
+      c.args.place,
+      (x, s, within _ _ c.requires),
+      sym c.word-name.ensures ∙ c.in-Some.ensures,
+      omega (arith, length-map c.args.words.now string_bytes, c.requires, c.if-place-words.true),
+    )
 
 pub returns-in-None : goal.returns-in-None
 returns-in-None c =
-    λ x s. (c.args.place, (x, s, within _ _ c.requires), sym c.word-name.ensures ∙ c.in-Some.ensures, omega arith, within _ _ c.if-place-words.false,
-    (λ n t. c.in-None.ensures n (subst (λ w. Takes c.in-Some.setting w n) (sym c.word.ensures) t)))
+    λ x s. (
+      c.args.place,
+      (x, s, within _ _ c.requires),
+      sym c.word-name.ensures ∙ c.in-Some.ensures,
+      omega arith,
+      within _ _ c.if-place-words.false,
+      (λ n t. c.in-None.ensures n (subst (λ w. Takes c.in-Some.setting w n) (sym c.word.ensures) t)),
+    )

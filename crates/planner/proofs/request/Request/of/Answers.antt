@@ -1,4 +1,4 @@
-use Rattle.std.proofs.Common.{ℕ, ◌+◌, length, map, sym, subst}
+use Rattle.std.proofs.Common.{◌+◌, map, sym, subst}
 use Rattle.std.specs.Prelude.{string_bytes}
 use Rattle.planner.specs.Requests.{Sets}
 use Rattle.planner.specs.Requests.Sets.{none, more}

@@ -1,4 +1,4 @@
-use Rattle.std.proofs.Common.{ℕ, ◌-◌, length, map}
+use Rattle.std.proofs.Common.{◌-◌, length, map}
 use Rattle.std.specs.Prelude.{string_bytes}
 use Rattle.planner.specs.Options.{settings}
 use Rattle.planner.specs.Requests.{Sets}
