@@ -16,6 +16,7 @@ mod partial_tests;
 mod parts;
 #[cfg(test)]
 mod places;
+pub mod program;
 #[cfg(test)]
 mod same;
 pub mod table;
