@@ -1,6 +1,7 @@
 #!/usr/bin/env python3
 """Shows that the programs of tools/turned_away/ are turned away: each edit is applied to a copy of the repository, and
-the compiler has to refuse the program in the words that the edit names."""
+the compiler has to refuse the program in words that the edit names. Where it names several, any of them will do: the
+compiler says it otherwise of a library that is built already."""
 import pathlib
 import shutil
 import subprocess
@@ -11,8 +12,11 @@ ROOT = pathlib.Path(__file__).resolve().parent.parent
 
 
 def fields(edit):
-    pairs = (line.split(": ", 1) for line in edit.read_text().splitlines() if line)
-    return {name: text for name, text in pairs}
+    told = {}
+    for line in filter(None, edit.read_text().splitlines()):
+        name, text = line.split(": ", 1)
+        told.setdefault(name, []).append(text)
+    return told
 
 
 def copy_to(folder):
@@ -23,18 +27,20 @@ def copy_to(folder):
         shutil.copy2(ROOT / name, target)
 
 
-def is_turned_away(edit, folder):
+def turned_away(edit, folder):
     told = fields(edit)
-    source = folder / told["file"]
+    [file], [old], [new] = told["file"], told["old"], told["new"]
+    source = folder / file
     text = source.read_text()
-    if text.count(told["old"]) != 1:
-        return False, f"'{told['old']}' stands {text.count(told['old'])} times in {told['file']}"
-    source.write_text(text.replace(told["old"], told["new"]))
+    if text.count(old) != 1:
+        return None, f"'{old}' stands {text.count(old)} times in {file}"
+    source.write_text(text.replace(old, new))
     crate = source.parent.parent
     run = subprocess.run(["rt", "check", "--only", ""], cwd=crate, capture_output=True, text=True)
     source.write_text(text)
     output = run.stdout + run.stderr
-    return run.returncode != 0 and told["says"] in output, output[-2000:]
+    said = [words for words in told["says"] if words in output]
+    return said[0] if run.returncode != 0 and said else None, output[-2000:]
 
 
 def main():
@@ -43,11 +49,11 @@ def main():
         folder = pathlib.Path(name)
         copy_to(folder)
         for edit in edits:
-            away, output = is_turned_away(edit, folder)
-            if not away:
+            said, output = turned_away(edit, folder)
+            if said is None:
                 print(output)
                 sys.exit(f"not turned away as {edit.name} says")
-            print(f"turned away: {edit.stem}: {fields(edit)['says']}")
+            print(f"turned away: {edit.stem}: {said}")
     if len(edits) != 3:
         sys.exit("three programs are to be turned away")
 
