@@ -14,4 +14,5 @@ pub mod plan_fault;
 pub mod request;
 pub mod run;
 pub mod setting;
+pub mod start;
 pub mod words;
