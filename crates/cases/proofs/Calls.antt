@@ -80,11 +80,13 @@ limits = (
 
 pub explained : Explained
 unfolding digits
-explained = ((refl, refl, refl, refl, refl), (refl, refl, refl), (refl, refl, refl, refl))
+explained = ((refl, refl, refl, refl, refl, refl, refl, refl, refl), (refl, refl, refl), (refl, refl, refl, refl))
 
 pub streams : Streams
 unfolding digits
 streams = (
+  (λ ws p o. (refl, refl, refl)),
+  (λ ws r front. (refl, refl, refl)),
   (λ ws a e. rw e (refl, refl)),
   (λ ws a e. rw e (refl, refl, refl)),
   (λ ws a e. rw e (refl, refl, refl)),

@@ -1,10 +1,13 @@
-use Rattle.std.specs.Prelude.{◌≡◌, ◌+◌, ℕ, true, false, List, [], ◌∷◌, ◌++◌, codes, take, Some, None}
+use Rattle.std.specs.Prelude.{◌≡◌, ℕ, true, false, List, [], ◌∷◌, ◌++◌, codes, take, Some, None, Vec}
+use Rattle.std.specs.declared.alloc.Global.{Global}
 use Rattle.refusal.specs.declared.refusal.Refusal.{Refusal}
+use Rattle.refusal.specs.Wording.{wording}
 use Rattle.refusal.specs.declared.layer.Layer.{Layer}
 use Rattle.refusal.specs.declared.layer.Layer.TheVariants.{Bytes, Records, Graph}
 use Rattle.planner.specs.declared.setting.Setting.TheVariants.{Nodes, Budget}
 use Rattle.planner.specs.declared.limit.Limit.TheVariants as limits
 use Rattle.planner.specs.declared.options.Options.{Options}
+use Rattle.planner.specs.declared.plan.Plan.{Plan}
 use Rattle.planner.specs.declared.request.Request.TheVariants.{Search, Help, Bad}
 use Rattle.planner.specs.declared.request.CallFault.TheVariants.{NoOption, NoValue, BadValue}
 use Rattle.planner.specs.declared.answer.Answer.{Answer}
@@ -57,11 +60,11 @@ Usages =
 abbrev pub Faults : Type 0
 Faults =
     (bad_call (name ∷ codes "--frob" ∷ []) (NoOption 1)
-    ≡ codes "call: --frob is no option: --nodes, --budget and --help are\nusage: planrun [--nodes N] [--budget K] < FILE\n")
+    ≡ codes "call: '--frob' is no option: --nodes, --budget and --help are\nusage: planrun [--nodes N] [--budget K] < FILE\n")
     × (bad_call (codes "./plan" ∷ codes "--nodes" ∷ []) (NoValue Nodes)
     ≡ codes "call: --nodes has no value: a whole number from 2 to 1048576 is wanted\nusage: ./plan FILE [--nodes N] [--budget K]\n")
     × (bad_call (name ∷ codes "--budget" ∷ codes "x" ∷ []) (BadValue Budget 2)
-    ≡ codes "call: --budget x is not a whole number from 0 to 18446744073709551615\nusage: planrun [--nodes N] [--budget K] < FILE\n")
+    ≡ codes "call: --budget 'x' is not a whole number from 0 to 18446744073709551615\nusage: planrun [--nodes N] [--budget K] < FILE\n")
 
 -- what ended a search, and what is said of it
 abbrev pub Limits : Type 0
@@ -72,25 +75,31 @@ Limits =
     × (limit_text o (Some limits.Budget) ≡ codes "open: the budget of 10000 is spent; raise --budget\n")
     × (limit_text o (Some limits.Nodes) ≡ codes "open: the 256 nodes do not suffice; raise --nodes\n"))
     × ((o : Options) → settings o ≡ (1048576, 10000)
-    → limit_text o (Some limits.Nodes) ≡ codes "open: all 1048576 nodes are taken, and there can be no more\n")
+    → limit_text o (Some limits.Nodes) ≡ codes "open: 1048576 nodes do not suffice, and there can be no more\n")
 
 -- what is said of a refused file, by number and place
 abbrev pub Explained : Type 0
 Explained =
     ((explained [] (refused 1 0 Bytes) ≡ codes "file: this does not look like a run file, which begins with a record of kind 1 and 8 bytes\n")
-    × (explained (take 10 example_file) (refused 1 8 Bytes) ≡ codes "file: the record at byte 8 is cut off: the file ends within it\n")
-    × (explained (take 32 example_file ++ 2 ∷ 0 ∷ 2 ∷ 0 ∷ 1 ∷ 0 ∷ []) (refused 2 32 Records)
+    × (explained (take 10 example_file) (refused 1 8 Bytes) ≡ codes "file: it ends before the record at byte 8 is complete\n")
+    × (explained (9 ∷ 0 ∷ 1 ∷ 0 ∷ []) (refused 2 0 Records) ≡ codes "file: this does not look like a run file, which begins with a record of kind 1 and 8 bytes\n")
+    × (explained (2 ∷ 0 ∷ 1 ∷ 0 ∷ 4 ∷ 0 ∷ []) (refused 3 0 Records) ≡ codes "file: this does not look like a run file, which begins with a record of kind 1 and 8 bytes\n")
+    × (explained (take 32 example_file ++ 6 ∷ 0 ∷ 2 ∷ 0 ∷ 1 ∷ 0 ∷ 1 ∷ 0 ∷ 1 ∷ 0 ∷ []) (refused 2 32 Records)
     ≡ codes "file: the record at byte 32 is of kind 2, where a transfer (kind 3) or the end (kind 4) is due\n")
     × (explained (take 26 example_file ++ 0 ∷ 0 ∷ 4 ∷ 0 ∷ []) (refused 2 26 Records)
     ≡ codes "file: the record at byte 26 is of kind 4, where a task (kind 2) is due\n")
     × (explained (take 26 example_file ++ 4 ∷ 0 ∷ 2 ∷ 0 ∷ 1 ∷ 0 ∷ 0 ∷ 0 ∷ []) (refused 3 26 Records)
-    ≡ codes "file: the record at byte 26 has a payload of 4 bytes, where a task has 2, a transfer 6 and the end 0\n"))
+    ≡ codes "file: the record at byte 26 is of kind 2 with a payload of 4 bytes, where 2 are due\n")
+    × (explained (take 32 example_file ++ 2 ∷ 0 ∷ 3 ∷ 0 ∷ 1 ∷ 0 ∷ []) (refused 3 32 Records)
+    ≡ codes "file: the record at byte 32 is of kind 3 with a payload of 2 bytes, where 6 are due\n")
+    × (explained (take 32 example_file ++ 2 ∷ 0 ∷ 4 ∷ 0 ∷ 1 ∷ 0 ∷ []) (refused 3 32 Records)
+    ≡ codes "file: the record at byte 32 is of kind 4 with a payload of 2 bytes, where 0 are due\n"))
     × ((explained (4 ∷ 0 ∷ 1 ∷ 0 ∷ 33 ∷ 0 ∷ 2 ∷ 0 ∷ []) (refused 4 0 Graph)
     ≡ codes "file: there are 33 tasks and 2 machines, where 1 to 32 tasks and 1 to 8 machines are allowed\n")
     × (explained (take 14 example_file ++ 2 ∷ 0 ∷ 2 ∷ 0 ∷ 233 ∷ 3 ∷ []) (refused 4 14 Graph)
     ≡ codes "file: the record at byte 14 gives task 1 the work 1001, where 1 to 1000 is allowed\n")
     × (explained (take 32 example_file ++ 6 ∷ 0 ∷ 3 ∷ 0 ∷ 0 ∷ 0 ∷ 4 ∷ 0 ∷ 5 ∷ 0 ∷ []) (refused 4 32 Graph)
-    ≡ codes "file: the record at byte 32 is a transfer from task 0 to task 4 of cost 5, where two tasks of the file and a cost of 0 to 1000 are allowed\n"))
+    ≡ codes "file: the record at byte 32 is a transfer from task 0 to task 4 of cost 5, where two different tasks below 4 and a cost of 0 to 1000 are allowed\n"))
     × ((explained example_file (refused 5 32 Graph) ≡ codes "file: the record at byte 32 is a transfer too many: 128 are allowed\n")
     × (explained example_file (refused 6 42 Graph) ≡ codes "file: the record at byte 42 is a second transfer from task 0 to task 2\n")
     × (explained (example_file ++ 0 ∷ []) (refused 7 76 Records) ≡ codes "file: bytes follow the last record, from byte 76 on\n")
@@ -99,7 +108,13 @@ Explained =
 -- which stream each answer goes to, and the status
 abbrev pub Streams : Type 0
 Streams =
-    ((ws : List (List ℕ)) (a : Answer) → a ≡ answers.Help → (message_of ws a ≡ []) × (status_of a ≡ 0))
+    ((ws : List (List ℕ)) (p : Plan) (o : Options)
+    → (output_of name (answers.Page p o) ≡ p.page.items)
+    × (message_of ws (answers.Page p o) ≡ limit_text o p.limit) × (status_of (answers.Page p o) ≡ 0))
+    × ((ws : List (List ℕ)) (r : Refusal) (front : Vec ℕ Global)
+    → (output_of name (answers.Refused r front) ≡ wording r ++ codes "\n")
+    × (message_of ws (answers.Refused r front) ≡ explained front.items r) × (status_of (answers.Refused r front) ≡ 1))
+    × ((ws : List (List ℕ)) (a : Answer) → a ≡ answers.Help → (message_of ws a ≡ []) × (status_of a ≡ 0))
     × ((ws : List (List ℕ)) (a : Answer) → a ≡ answers.BadCall (NoOption 1)
     → (output_of name a ≡ []) × (message_of ws a ≡ bad_call ws (NoOption 1)) × (status_of a ≡ 1))
     × ((ws : List (List ℕ)) (a : Answer) → a ≡ answers.NoMemory 4096

@@ -36,6 +36,15 @@ Answered (Bad f) left a = a ≡ BadCall f
 abbrev pub Answers : List (List ℕ) → Option (List ℕ) → Answer → Type 0
 Answers ws left a = (r : Request) × Asks ws r × Answered r left a
 
+-- of an answer that needs no input this is so
+abbrev pub Unread : Answer → Type 0 → Type 0
+Unread (Page p o) P = ⊤
+Unread (Refused r front) P = ⊤
+Unread Help P = P
+Unread (BadCall f) P = P
+Unread (NoMemory n) P = ⊤
+Unread Unreadable P = ⊤
+
 -- what is written to the output, by the name that the program was called by
 abbrev pub output_of : List ℕ → Answer → List ℕ
 output_of name (Page p o) = p.page.items

@@ -32,11 +32,15 @@ kind_text bs i =
     then codes ", where a task (kind 2) is due\n"
     else codes ", where a transfer (kind 3) or the end (kind 4) is due\n")))
 
--- number 3: which payload lengths are due
+-- number 3: how long the payload of a task, a transfer and the end is
+abbrev pub length_due : ℕ → ℕ
+length_due kind = if kind == 2 then 2 else if kind == 3 then 6 else 0
+
 abbrev pub length_text : List ℕ → ℕ → List ℕ
 length_text bs i =
-    record_text i ++ (codes " has a payload of " ++ (decimal (word_at bs i)
-    ++ codes " bytes, where a task has 2, a transfer 6 and the end 0\n"))
+    record_text i ++ (codes " is of kind " ++ (decimal (word_at bs (i + 2))
+    ++ (codes " with a payload of " ++ (decimal (word_at bs i)
+    ++ (codes " bytes, where " ++ (decimal (length_due (word_at bs (i + 2))) ++ codes " are due\n"))))))
 
 -- number 4: which numbers are out of range
 abbrev pub sizes_text : List ℕ → List ℕ
@@ -53,7 +57,8 @@ abbrev pub ends_text : List ℕ → ℕ → List ℕ
 ends_text bs i =
     record_text i ++ (codes " is a transfer from task " ++ (decimal (word_at bs (i + 4))
     ++ (codes " to task " ++ (decimal (word_at bs (i + 6)) ++ (codes " of cost " ++ (decimal (word_at bs (i + 8))
-    ++ codes ", where two tasks of the file and a cost of 0 to 1000 are allowed\n"))))))
+    ++ (codes ", where two different tasks below " ++ (decimal (tasks_told bs)
+    ++ codes " and a cost of 0 to 1000 are allowed\n"))))))))
 
 abbrev pub range_text : List ℕ → ℕ → List ℕ
 range_text bs i =
@@ -74,15 +79,16 @@ cycle_text i =
 abbrev pub told : List ℕ → ℕ → ℕ → List ℕ
 told bs n i =
     if i == 0 && nat_le n 3 then no_run_file
-    else if n == 1 then record_text i ++ codes " is cut off: the file ends within it\n"
+    else if n == 1 then codes "file: it ends before the record at byte " ++ (decimal i ++ codes " is complete\n")
     else if n == 2 then kind_text bs i
     else if n == 3 then length_text bs i
     else if n == 4 then range_text bs i
     else if n == 5 then record_text i ++ codes " is a transfer too many: 128 are allowed\n"
     else if n == 6 then twice_text bs i
     else if n == 7 then codes "file: bytes follow the last record, from byte " ++ (decimal i ++ codes " on\n")
-    else cycle_text i
+    else if n == 8 then cycle_text i
+    else codes ""
 
--- the refusal of a file; a place past its end is of another, and nothing is said
+-- the refusal of a file in words; nothing, where the place lies past the end of the bytes, as it does in no refusal of theirs
 abbrev pub explained : List ℕ → Refusal → List ℕ
 explained bs r = if nat_lt (length bs) r.place then codes "" else told bs r.number r.place

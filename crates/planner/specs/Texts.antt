@@ -11,7 +11,7 @@ use Rattle.planner.specs.Requests.{word_at}
 
 -- What is written beside pages and refusals.
 
--- by its name: the script `plan` calls the program by its own name, and takes the file among its words
+-- the program is called by the script `plan`, which gives it this name, and takes the file among its words
 abbrev pub by_script : List ℕ → Bool
 by_script name = ends_with nat_eq name (codes "plan")
 
@@ -37,16 +37,16 @@ help_of name =
     ++ (codes "  --budget K   how many nodes it may expand: 0 to 18446744073709551615, without it 10000\n"
     ++ (codes "  --help       prints this\n\n"
     ++ (codes "Of the same option the last counts; a plus and zeros may lead a number.\n"
-    ++ (codes "It prints the best schedule, its length, and a floor that no schedule can go below. The last line is\n"
-    ++ (codes "shortest where no schedule is shorter, and else open; the error stream tells then what to raise.\n"
-    ++ (codes "The status is 0 after a page and this help, and else 1: for a file that is refused, a call with a word\n"
-    ++ (codes "at fault, and where memory is wanting or a stream fails.\n\n"
+    ++ (codes "The program prints the best schedule, its length, and a floor that no schedule can go below. The last line is\n"
+    ++ (codes "shortest where no schedule is shorter, and else open; then the error stream tells why.\n"
+    ++ (codes "The status is 0 after a page and this help, and else 1: where the file is refused, a word of the call is at fault,\n"
+    ++ (codes "there is not enough memory, or standard input or output fails.\n\n"
     ++ (codes "example: " ++ (example_of name ++ codes "\n"))))))))))))
 
 -- which word of a call is at fault, what is allowed there, and how a program of this name is called
 abbrev pub no_option : List ℕ → List ℕ → List ℕ
 no_option name word =
-    codes "call: " ++ (word ++ (codes " is no option: --nodes, --budget and --help are\nusage: " ++ (usage_of name ++ codes "\n")))
+    codes "call: '" ++ (word ++ (codes "' is no option: --nodes, --budget and --help are\nusage: " ++ (usage_of name ++ codes "\n")))
 
 abbrev pub no_value : List ℕ → Setting → List ℕ
 no_value name s =
@@ -55,7 +55,7 @@ no_value name s =
 
 abbrev pub bad_value : List ℕ → Setting → List ℕ → List ℕ
 bad_value name s value =
-    codes "call: " ++ (name_of s ++ (codes " " ++ (value ++ (codes " is not a whole number from "
+    codes "call: " ++ (name_of s ++ (codes " '" ++ (value ++ (codes "' is not a whole number from "
     ++ (range_of s ++ (codes "\nusage: " ++ (usage_of name ++ codes "\n")))))))
 
 abbrev pub bad_call : List (List ℕ) → CallFault → List ℕ
@@ -70,14 +70,14 @@ limit_text o (Some Budget) =
     codes "open: the budget of " ++ (decimal o.budget ++ codes " is spent; raise --budget\n")
 limit_text o (Some Nodes) =
     if o.nodes == 1048576
-    then codes "open: all 1048576 nodes are taken, and there can be no more\n"
+    then codes "open: 1048576 nodes do not suffice, and there can be no more\n"
     else codes "open: the " ++ (decimal o.nodes ++ codes " nodes do not suffice; raise --nodes\n")
 
--- want of memory for a search with so many nodes
+-- there is not enough memory for a search with so many nodes
 abbrev pub no_memory : ℕ → List ℕ
 no_memory n = codes "memory: there is not enough for " ++ (decimal n ++ codes " nodes; lower --nodes\n")
 
--- want of memory for the words of the call, and streams that fail
+-- there is not enough for the words of the call; and streams that fail
 abbrev pub no_words : List ℕ
 no_words = codes "memory: there is not enough for the words of the call\n"
 

@@ -1,6 +1,6 @@
 ghost use Rattle.std.specs.Prelude.{◌≡◌, OnOk, map, string_bytes};
 ghost use Rattle.std.specs.Io.KnownBytes.{Appends};
-ghost use Rattle.planner.specs.Answers.{Searched, Answers, output_of, message_of, status_of};
+ghost use Rattle.planner.specs.Answers.{Searched, Answers, Unread, output_of, message_of, status_of};
 
 use crate::explanation::write_explanation;
 use crate::input::read_front;
@@ -35,7 +35,8 @@ impl Answer {
     /// The answer to the words of a call, with a run file on the input. Of the input no more is read than the answer
     /// can depend on, and nothing where no search is asked for.
     pub fn of<R: Read>(heap: Global, words: &[String], input: &mut R) -> Answer
-        ensures { Answers (map string_bytes words.now) (R.remaining input.old) result }
+        ensures answers { Answers (map string_bytes words.now) (R.remaining input.old) result }
+        ensures unread { Unread result (input.new ≡ input.old) }
     {
         match Request::of(words) {
             Request::Search(options) => searched(heap, options, input),

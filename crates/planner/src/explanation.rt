@@ -1,7 +1,7 @@
 ghost use Rattle.std.specs.Prelude.{◌≡◌, ◌+◌, ◌<◌, ◌≤◌, length, slice_index, OnOk};
 ghost use Rattle.std.specs.Io.KnownBytes.{Appends};
 ghost use Rattle.loader.specs.Bytes.{word_at};
-ghost use Rattle.planner.specs.Explaining.{is_task, task_of, no_run_file, kind_text, length_text, sizes_text, work_text, ends_text, range_text, twice_text, cycle_text, told, explained};
+ghost use Rattle.planner.specs.Explaining.{is_task, task_of, no_run_file, kind_text, length_due, length_text, sizes_text, work_text, ends_text, range_text, twice_text, cycle_text, told, explained};
 
 use refusal::refusal::Refusal;
 use std::io;
@@ -34,7 +34,7 @@ fn write_told<W: Write>(errors: &mut W, bytes: &[u8], number: u8, place: usize) 
     match number {
         1 => write!(
             errors,
-            "file: the record at byte {place} is cut off: the file ends within it\n"
+            "file: it ends before the record at byte {place} is complete\n"
         ),
         2 => write_kind(errors, bytes, place),
         3 => write_length(errors, bytes, place),
@@ -48,7 +48,8 @@ fn write_told<W: Write>(errors: &mut W, bytes: &[u8], number: u8, place: usize) 
             errors,
             "file: bytes follow the last record, from byte {place} on\n"
         ),
-        _ => write_cycle(errors, place),
+        8 => write_cycle(errors, place),
+        _ => errors.write_all(b""),
     }
 }
 
@@ -89,11 +90,24 @@ fn write_length<W: Write>(errors: &mut W, bytes: &[u8], place: usize) -> io::Res
     ensures { OnOk result
         (Appends (W.contents errors.old) (W.contents errors.new) (length_text bytes.now place)) }
 {
+    let kind = number(bytes, place + 2);
     let length = number(bytes, place);
+    let due = length_due(kind);
     write!(
         errors,
-        "file: the record at byte {place} has a payload of {length} bytes, where a task has 2, a transfer 6 and the end 0\n"
+        "file: the record at byte {place} is of kind {kind} with a payload of {length} bytes, where {due} are due\n"
     )
+}
+
+// How long the payload of a record of this kind is.
+fn length_due(kind: u64) -> u64
+    ensures { result ≡ length_due kind }
+{
+    match kind {
+        2 => 2,
+        3 => 6,
+        _ => 0,
+    }
 }
 
 // Which numbers the record has, and which are allowed.
@@ -144,10 +158,11 @@ fn write_ends<W: Write>(errors: &mut W, bytes: &[u8], place: usize) -> io::Resul
     let from = number(bytes, place + 4);
     let to = number(bytes, place + 6);
     let cost = number(bytes, place + 8);
+    let tasks = number(bytes, 4);
     write!(
         errors,
         "file: the record at byte {place} is a transfer from task {from} to task {to} of cost {cost}, \
-         where two tasks of the file and a cost of 0 to 1000 are allowed\n"
+         where two different tasks below {tasks} and a cost of 0 to 1000 are allowed\n"
     )
 }
 

@@ -9,7 +9,7 @@ use crate::setting::Setting;
 use std::io;
 use std::io::Write;
 
-// The script has the file among its words.
+// Whether the script `plan` calls, which has the file among its words.
 fn is_script(name: &str) -> bool
     ensures { result ≡ by_script name.now }
 {
@@ -53,10 +53,10 @@ pub fn write_help<W: Write>(output: &mut W, name: &str) -> io::Result<()>
          \x20 --budget K   how many nodes it may expand: 0 to 18446744073709551615, without it 10000\n\
          \x20 --help       prints this\n\n\
          Of the same option the last counts; a plus and zeros may lead a number.\n\
-         It prints the best schedule, its length, and a floor that no schedule can go below. The last line is\n\
-         shortest where no schedule is shorter, and else open; the error stream tells then what to raise.\n\
-         The status is 0 after a page and this help, and else 1: for a file that is refused, a call with a word\n\
-         at fault, and where memory is wanting or a stream fails.\n\n\
+         The program prints the best schedule, its length, and a floor that no schedule can go below. The last line is\n\
+         shortest where no schedule is shorter, and else open; then the error stream tells why.\n\
+         The status is 0 after a page and this help, and else 1: where the file is refused, a word of the call is at fault,\n\
+         there is not enough memory, or standard input or output fails.\n\n\
          example: {example}\n"
     )
 }
@@ -87,7 +87,7 @@ fn write_no_option<W: Write>(errors: &mut W, name: &str, word: &str) -> io::Resu
     let usage = usage(name);
     write!(
         errors,
-        "call: {word} is no option: --nodes, --budget and --help are\nusage: {usage}\n"
+        "call: '{word}' is no option: --nodes, --budget and --help are\nusage: {usage}\n"
     )
 }
 
@@ -118,7 +118,7 @@ fn write_bad_value<W: Write>(
     let usage = usage(name);
     write!(
         errors,
-        "call: {option} {value} is not a whole number from {range}\nusage: {usage}\n"
+        "call: {option} '{value}' is not a whole number from {range}\nusage: {usage}\n"
     )
 }
 
@@ -139,7 +139,7 @@ pub fn write_limit<W: Write>(
             "open: the budget of {budget} is spent; raise --budget\n"
         ),
         Some(Limit::Nodes) if nodes == 1_048_576 => {
-            errors.write_all(b"open: all 1048576 nodes are taken, and there can be no more\n")
+            errors.write_all(b"open: 1048576 nodes do not suffice, and there can be no more\n")
         }
         Some(Limit::Nodes) => write!(
             errors,

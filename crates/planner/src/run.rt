@@ -2,7 +2,7 @@ ghost use Rattle.std.specs.Prelude.{◌≡◌, true, MatchResult, map, string_by
 ghost use Rattle.std.specs.Io.KnownBytes.{Appends};
 ghost use Rattle.std.specs.Process.{exit_status};
 ghost use Rattle.planner.specs.declared.answer.Answer.{Answer};
-ghost use Rattle.planner.specs.Answers.{Answers};
+ghost use Rattle.planner.specs.Answers.{Answers, Unread};
 ghost use Rattle.planner.specs.Running.{Delivered};
 ghost use Rattle.planner.specs.Texts.{no_words};
 
@@ -17,9 +17,9 @@ use std::process::ExitCode;
 pub struct Ended {
     /// The status that the process ends with.
     pub status: u8,
-    /// Whether the output took all that was to be written there.
+    /// Whether the output took all that was to be written to it.
     pub written: bool,
-    /// Whether the error stream did.
+    /// Whether the error stream took all that was to be written to it.
     pub told: bool,
 }
 
@@ -43,9 +43,9 @@ pub fn run<R: Read, W: Write, E: Write>(
 ) -> Ended
     ensures { MatchResult words
         (λ v. let ws = map string_bytes v.items in (a : Answer) × Answers ws (R.remaining input.old) a
-        × Delivered ws a (W.contents output.old) (W.contents output.new)
+        × Unread a (input.new ≡ input.old) × Delivered ws a (W.contents output.old) (W.contents output.new)
         (E.contents errors.old) (E.contents errors.new) result)
-        (λ _. (output.new ≡ output.old) × (result.status ≡ 1)
+        (λ _. (input.new ≡ input.old) × (output.new ≡ output.old) × (result.status ≡ 1)
         × (result.told ≡ true → Appends (E.contents errors.old) (E.contents errors.new) no_words)) }
 {
     match words {

@@ -5,8 +5,8 @@ use crate::run::run;
 use crate::words::words;
 use std::process::ExitCode;
 
-/// What `main` does: runs the program on the words of the command line and the standard streams. The status is 0 after a
-/// page and the help, else 1.
+/// What `main` does: runs the program on the words of the command line and the standard streams. The status is that of
+/// `run`.
 pub fn start(rt: HostRuntime) -> ExitCode
     ensures { (exit_status result ≡ 0) ⊎ (exit_status result ≡ 1) }
 {

@@ -1,5 +1,7 @@
-use Rattle.std.proofs.Common.{sym}
+use Rattle.std.proofs.Common.{sym, ◌∙◌, ap}
+use Rattle.planner.specs.Explaining.{length_due}
 use Rattle.planner.proofs.explanation.write_length.Goals as goal
 
 pub returns : goal.returns
-returns g c = rw (sym c.number-length.ensures.value) c.write.ensures.bytes
+returns g c =
+    rw (sym c.number-kind.ensures.value, sym c.number-length.ensures.value, sym c.length_due-due.ensures) c.write.ensures.bytes

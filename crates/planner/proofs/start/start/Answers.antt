@@ -27,4 +27,4 @@ by-words (Err e) P Q m f g = g e m
 pub returns : goal.returns
 returns c =
     subst ZeroOrOne (sym c.code.ensures)
-    (by-words c.words.result _ _ c.run.ensures (λ v h. of-delivered c.run.result.written c.run.result.status h.0 _ _ _ h.2) (λ e h. inr h.1))
+    (by-words c.words.result _ _ c.run.ensures (λ v h. of-delivered c.run.result.written c.run.result.status h.0 _ _ _ h.3) (λ e h. inr h.2))
