@@ -1,3 +1,4 @@
 pub mod Pages
 pub mod Blanks
 pub mod Endings
+pub mod Asking

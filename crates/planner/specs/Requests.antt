@@ -1,4 +1,4 @@
-use Rattle.std.specs.Prelude.{◌≡◌, ◌≢◌, ℕ, suc, ◌+◌, ◌<◌, ◌≤◌, List, [], length, slice_index_or, codes}
+use Rattle.std.specs.Prelude.{◌≡◌, ◌≢◌, ℕ, suc, ◌+◌, ◌<◌, ◌≤◌, List, [], length, slice_index_or, codes, ⊤}
 use Rattle.planner.specs.declared.setting.Setting.{Setting}
 use Rattle.planner.specs.declared.request.Request.{Request}
 use Rattle.planner.specs.declared.request.Request.TheVariants.{Search, Help, Bad}
@@ -36,3 +36,10 @@ abbrev pub Asks : List (List ℕ) → Request → Type 0
 Asks ws (Search o) = (i : ℕ) × Sets ws i (settings o) × (length ws ≤ i)
 Asks ws Help = (i : ℕ) × Due ws i × (word_at ws i ≡ codes "--help")
 Asks ws (Bad f) = IsFault ws f
+
+-- two requests ask for the same
+abbrev pub Alike : Request → Request → Type 0
+Alike (Search o) (Search p) = settings o ≡ settings p
+Alike Help Help = ⊤
+Alike (Bad f) (Bad g) = f ≡ g
+Alike r s = ⊥

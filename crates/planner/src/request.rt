@@ -1,7 +1,7 @@
 ghost use Rattle.std.specs.Prelude.{◌≡◌, ◌≢◌, ℕ, suc, ◌<◌, length, map, MatchBool, MatchResult, codes, string_bytes};
 ghost use Rattle.planner.specs.declared.setting.Setting.{Setting};
 ghost use Rattle.planner.specs.Options.{settings, name_of, set, Takes};
-ghost use Rattle.planner.specs.Requests.{word_at, Sets, Asks};
+ghost use Rattle.planner.specs.Requests.{word_at, Sets, Asks, Alike};
 
 use crate::options::Options;
 use crate::setting::Setting;
@@ -32,7 +32,8 @@ impl Request {
     /// What the words behind the program's name ask for: options, each with its value, of which the last of the same
     /// counts; or help, as soon as an option is due and it is asked for. The first word that is neither is at fault.
     pub fn of(words: &[String]) -> Request
-        ensures { Asks (map string_bytes words.now) result }
+        ensures asks { Asks (map string_bytes words.now) result }
+        ensures one { (r : Request) → Asks (map string_bytes words.now) r → Alike r result }
     {
         let mut options = Options::usual();
         let mut place = 1;
