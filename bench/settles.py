@@ -28,6 +28,8 @@ WORK = 1000
 # Each size has a graph of every kind: machines, transfers for each task, and the greatest cost.
 KINDS = list(itertools.product([2, 3, 4, 8], [1, 2, 3], [100, 1000]))
 BUDGET = 2**64 - 1
+# From kind to kind: prime to their number, so that each comes once, and of a few all three parts differ.
+STEP = 17
 
 
 class Graph(typing.NamedTuple):
@@ -53,24 +55,24 @@ class Run(typing.NamedTuple):
 
 
 def graphs(each_size, seed):
-    """The graphs, as many of each size, of one kind after the other."""
-    kinds = list(itertools.islice(itertools.cycle(KINDS), each_size))
-    return [Graph(tasks, *kind, f"{seed} {tasks} {k}") for tasks in TASKS for k, kind in enumerate(kinds)]
+    """The graphs, as many of each size; where these are fewer than the kinds, of a spread of them."""
+    places = [k - k % len(KINDS) + STEP * k % len(KINDS) for k in range(each_size)]
+    return [Graph(tasks, *KINDS[k % len(KINDS)], f"{seed} {tasks} {k}") for tasks in TASKS for k in places]
 
 
 def run(program, seconds, graph, nodes, budget=BUDGET):
     """Runs the program on a graph. Time is the processor's: what else the machine does stops no search."""
     call = [program, "--nodes", str(nodes), "--budget", str(budget)]
-    child = subprocess.Popen(call, stdin=subprocess.PIPE, stdout=subprocess.PIPE)
+    child = subprocess.Popen(call, stdin=subprocess.PIPE, stdout=subprocess.PIPE, stderr=subprocess.PIPE)
     resource.prlimit(child.pid, resource.RLIMIT_CPU, (seconds, seconds + 1))
-    with child.stdin, child.stdout:
+    with child.stdin, child.stdout, child.stderr:
         child.stdin.write(graph.file())
         child.stdin.close()
-        lines = child.stdout.read().decode().splitlines()
+        lines, said = (stream.read().decode().splitlines() for stream in (child.stdout, child.stderr))
     _, status, used = os.wait4(child.pid, 0)
     child.returncode = os.waitstatus_to_exitcode(status)
     if child.returncode not in (0, -signal.SIGXCPU):
-        sys.exit(f"{graph}: {' '.join(call)} ended with {child.returncode}: {lines}")
+        sys.exit(f"{graph}: {' '.join(call)} ended with {child.returncode}: {lines} {said}")
     time, megabytes = used.ru_utime + used.ru_stime, used.ru_maxrss * 1024 / 1e6
     told = Run(graph, nodes, "stopped", None, None, None, time, megabytes)
     if lines:
@@ -140,13 +142,20 @@ def outcomes(runs, listed):
            *(spread([r.gap for r in of if r.graph in last], "%", ".1f") for of in by_nodes)]
 
 
+def count(text):
+    number = int(text)
+    if number < 1:
+        raise argparse.ArgumentTypeError(f"{text} is not above 0")
+    return number
+
+
 def options():
     ask = argparse.ArgumentParser(description=__doc__.splitlines()[0])
     ask.add_argument("--program", default=f"{ROOT}/crates/planrun/out/planrun", help="planrun, built")
-    ask.add_argument("--graphs", type=int, default=len(KINDS), help="graphs of each size")
+    ask.add_argument("--graphs", type=count, default=len(KINDS), help="graphs of each size")
     ask.add_argument("--seed", type=int, default=1, help="where the random generator starts")
-    ask.add_argument("--seconds", type=int, default=120, help="processor time after which a run is stopped")
-    ask.add_argument("--jobs", type=int, default=2, help="runs at the same time")
+    ask.add_argument("--seconds", type=count, default=120, help="processor time after which a run is stopped")
+    ask.add_argument("--jobs", type=count, default=2, help="runs at the same time")
     return ask.parse_args()
 
 

@@ -11,7 +11,10 @@ import sys
 
 
 def number(text):
-    value = int(text)
+    try:
+        value = int(text)
+    except ValueError:
+        raise ValueError(f"{text} is not a whole number") from None
     if not 0 <= value < 65536:
         raise ValueError(f"{text} does not fit into two bytes")
     return value
@@ -23,7 +26,7 @@ def record(kind, *numbers):
 
 class Run:
     def __init__(self):
-        self.machines = 0
+        self.machines = None
         self.works = {}  # by the task's name, in the order of the text
         self.transfers = []
 
@@ -34,6 +37,8 @@ class Run:
 
     def add(self, word, *rest):
         if word == "machines" and len(rest) == 1:
+            if self.machines is not None:
+                raise ValueError("there is a line of machines above")
             self.machines = number(rest[0])
         elif word == "task" and len(rest) == 2:
             name, work = rest
@@ -47,7 +52,7 @@ class Run:
             raise ValueError("a line is machines COUNT, task NAME WORK, or transfer FROM TO COST")
 
     def file(self):
-        head = record(1, len(self.works), self.machines)
+        head = record(1, len(self.works), self.machines or 0)
         tasks = [record(2, work) for work in self.works.values()]
         transfers = [record(3, *transfer) for transfer in self.transfers]
         return b"".join([head, *tasks, *transfers, record(4)])
@@ -65,4 +70,5 @@ def main():
     sys.stdout.buffer.write(run.file())
 
 
-main()
+if __name__ == "__main__":
+    main()
