@@ -1,7 +1,7 @@
 #![tactic(auto)]
 
-// Reads a run file from standard input, searches for a shortest schedule with a lower bound and an open list of its own, and
-// prints the length of the best schedule, and whether it is known to be shortest.
+//! Reads a run file from standard input, searches for a shortest schedule with a lower bound and an open list of its own, and
+//! prints the length of the best schedule, and whether it is known to be shortest.
 ghost use Rattle.std.specs.Prelude.{◌≡◌, Some, IfOk, IfErr, vec_capacity};
 ghost use Rattle.loader.specs.Meaning.{the_graph};
 ghost use Rattle.nodes.specs.Meaning.{the_nodes};

@@ -1,10 +1,12 @@
 use refusal::refusal::Refusal;
 use std::alloc::AllocError;
 
-// Why there is no plan: the run file is refused, or there is no memory for the search.
+/// Why there is no plan.
 #[derive(Clone, Copy, PartialEq, Eq, Debug)]
 pub enum PlanFault {
+    /// The run file is refused.
     Refused(Refusal),
+    /// There is not enough memory for the search.
     Memory(AllocError),
 }
 
