@@ -1,4 +1,4 @@
-use Rattle.std.proofs.Common.{◌≡◌, ℕ, ◌+◌, ◌<◌, ◌^◌, Bool, true, List, [], ◌∷◌, length, sym, refl, ap, subst, arith}
+use Rattle.std.proofs.Common.{◌≡◌, ℕ, ◌<◌, ◌^◌, Bool, true, List, [], ◌∷◌, length, sym, refl, ap, subst, arith}
 use Rattle.std.specs.Prelude.{codes, nat_lt, ◌&&◌, slice_index}
 use Rattle.std.specs.Fmt.{digits}
 use Rattle.std.specs.Char.{digit_value}
@@ -6,7 +6,7 @@ use Rattle.std.specs.Str.Parse.{AllDigits, digits_value, without_leading_plus}
 use Rattle.std.proofs.lemmas.Bool.{and_parts, ltb-true}
 use Rattle.planner.specs.declared.setting.Setting.{Setting}
 use Rattle.planner.specs.declared.setting.Setting.TheVariants.{Nodes, Budget}
-use Rattle.planner.specs.Options.{settings, name_of, Allows, Takes}
+use Rattle.planner.specs.Options.{name_of, Allows, Takes}
 use Rattle.planner.specs.Requests.{Sets}
 use Rattle.planner.specs.Requests.Sets.{none, more}
 use Rattle.cases.specs.Calls.{Calls, Ranges, Usages, Faults, Limits, Explained, Streams, Wants}

@@ -15,7 +15,7 @@ use Rattle.planner.specs.declared.answer.Answer.TheVariants as answers
 use Rattle.planner.specs.Options.{settings, Takes}
 use Rattle.planner.specs.Requests.{Asks}
 use Rattle.planner.specs.Limits.{limit_of}
-use Rattle.planner.specs.Texts.{usage_of, example_of, bad_call, limit_text, no_memory, no_words, unreadable, unwritten}
+use Rattle.planner.specs.Texts.{usage_of, example_of, bad_call, limit_text, no_words, unwritten}
 use Rattle.planner.specs.Explaining.{explained}
 use Rattle.planner.specs.Answers.{output_of, message_of, status_of}
 use Rattle.cases.specs.Table.{example_file}

@@ -20,7 +20,7 @@ use Rattle.loader.specs.Refused.{SoFar, more, place, Refused, short, kind, paylo
 use Rattle.loader.proofs.Refusing.{parse-refused}
 use Rattle.loader.proofs.Converse.{refused-only, refused-never}
 
--- ---- the longest run of good records, and the head of a transfer with the longest payload
+-- the longest run of good records, and the head of a transfer with the longest payload
 
 abbrev task : ℕ → ℕ
 task r = if r == 2 then 1 else 2

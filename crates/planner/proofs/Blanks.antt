@@ -15,6 +15,7 @@ use Rattle.page.specs.Pages.{Truthful}
 use Rattle.planner.specs.declared.options.Options.{Options}
 use Rattle.planner.specs.declared.limit.Limit.{Limit}
 use Rattle.planner.specs.Limits.{limit_at, EndedBy}
+use Rattle.planner.proofs.Pages.{one-value}
 use Rattle.planner.specs.Planning.{page_at, Written, TextOf, search_end}
 
 -- Blank nodes and slots, and the front of a buffer.
@@ -47,13 +48,6 @@ front (x ∷ xs) ys = ap (λ zs. x ∷ zs) (front xs ys)
 pub given-back : {X : Type 0} (n : ℕ) (xs ys : List X) → length xs ≡ n → take n (xs ++ drop (length xs) ys) ≡ xs
 given-back n xs ys e = ap (λ k. take k (xs ++ drop (length xs) ys)) (sym e) ∙ front xs (drop (length xs) ys)
 
--- a result tells one pair
-one-pair : {A B E : Type 0} (x y : A) (u v : B) (r : Result (A × B) E) → r ≡ Ok (x, u) → r ≡ Ok (y, v) → (x ≡ y) × (u ≡ v)
-one-pair {A = A} {B = B} x y u v r p q =
-    let k = sym p ∙ q in
-    let h : (x, u) ≡ (y, v) = cc in
-    (ap (λ (z : A × B). z.0) h, ap (λ (z : A × B). z.1) h)
-
 -- the page that was written is the text that is told, and what ended the search is told
 pub told : (g : Graph) (o : Options) (ns : List SearchNode) (limit : ℕ) (r : Result (ℕ × Option Limit) Refusal) (n : ℕ) (by : Option Limit) (old page text : List ℕ)
     → ns ≡ replicate o.nodes no_node → limit ≡ o.nodes → r ≡ Ok (n, by)
@@ -63,9 +57,9 @@ pub told : (g : Graph) (o : Options) (ns : List SearchNode) (limit : ℕ) (r : R
 told g o ns limit r n by old page text e l ok w ends cut =
     let m : Moment = ended g joined_bound ns limit o.budget 1 in
     let t : List ℕ = report_text (page_at g m) in
-    let q = one-pair n (length t) by (limit_at g o.budget m) r ok w.0 in
-    let k : n ≡ length t = q.0 in
-    let b : by ≡ limit_at g o.budget m = q.1 in
+    let q = one-value (n, by) (length t, limit_at g o.budget m) r ok w.0 in
+    let k : n ≡ length t = ap (λ (z : ℕ × Option Limit). z.0) q in
+    let b : by ≡ limit_at g o.budget m = ap (λ (z : ℕ × Option Limit). z.1) q in
     let is : text ≡ t = cut ∙ ap (λ i. take i page) k ∙ ap (take (length t)) w.1 ∙ front t (drop (length t) old) in
     subst (λ (z : Moment). (text ≡ report_text (page_at g z)) × Truthful (would_settle g z) (page_at g z) × (by ≡ limit_at g o.budget z) × EndedBy g o.budget z by) same
     (is, w.2, b, subst (EndedBy g o.budget m) (sym b) ends)

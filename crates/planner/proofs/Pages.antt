@@ -80,6 +80,6 @@ limit-end g t bag limit s end k e f =
     ap (λ w. limit_of w (expanded_in s) k) f
     ∙ ap (λ n. limit_of (would_settle g end) n k) (sym (expanded-at t bag limit s) ∙ ap (λ (m : Moment). m.state.tally.expanded) e)
 
--- one result tells one number
-pub one-number : (n m : ℕ) (r : Result ℕ PageFault) → r ≡ Ok n → r ≡ Ok m → n ≡ m
-one-number n m r p q = let h = sym p ∙ q in cc
+-- a result tells one value
+pub one-value : {A E : Type 0} (x y : A) (r : Result A E) → r ≡ Ok x → r ≡ Ok y → x ≡ y
+one-value x y r p q = let h = sym p ∙ q in cc

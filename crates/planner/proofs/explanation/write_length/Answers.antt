@@ -1,5 +1,4 @@
-use Rattle.std.proofs.Common.{sym, ◌∙◌, ap}
-use Rattle.planner.specs.Explaining.{length_due}
+use Rattle.std.proofs.Common.{sym}
 use Rattle.planner.proofs.explanation.write_length.Goals as goal
 
 pub returns : goal.returns
